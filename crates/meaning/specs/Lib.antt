@@ -1,0 +1,11 @@
+pub mod Tests
+pub mod Table
+pub mod Axes
+pub mod Query
+pub mod Pruning
+pub mod Words
+pub mod Answers
+pub mod Listing
+pub mod Told
+pub mod Entries
+pub mod Examples
