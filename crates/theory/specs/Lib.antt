@@ -1,1 +1,3 @@
-pub mod Told
+pub mod Tests
+pub mod Trees
+pub mod Orders
