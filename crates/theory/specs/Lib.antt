@@ -5,3 +5,7 @@ pub mod Striking
 pub mod Smallest
 pub mod Tuples
 pub mod Tried
+pub mod Stages
+pub mod Cost
+pub mod Told
+pub mod Whole
