@@ -3,6 +3,7 @@ use mathlib.Core.Path.{_≡_, refl}
 use mathlib.Core.Bool.{Bool, true, false}
 use mathlib.Core.List.{List, [], _∷_, map}
 use Prim.Native.Nat.{ℕ, zero, suc}
+use lib.ListN.{length}
 use Rattle.meaning.specs.Tests.{_&_, _or_, non, every, some, count, sum, least, tab}
 use Rattle.meaning.specs.Table.{isSized, isNumbered, isNested, isTree, below, child, later, next, follows, level}
 use Rattle.meaning.specs.Axes.{bytes, axes, isAxis, axisOf, setOf, kindHolds, directed, axisHolds, key}
@@ -71,3 +72,39 @@ pub examples :
     × (answers (problem D D-labels children) ≡ (1 ∷ []) ∷ (4 ∷ []) ∷ (2 ∷ []) ∷ (3 ∷ []) ∷ (5 ∷ []) ∷ (6 ∷ []) ∷ (7 ∷ []) ∷ (8 ∷ []) ∷ (9 ∷ []) ∷ [])
 unfolding computing
 examples = (refl, refl, refl, refl, refl, refl, refl, refl, refl, refl)
+
+-- the rows to which an axis leads from row p
+abbrev from-row : List ℕ → ℕ → ℕ → List Bool
+from-row t c p = tab (axisHolds t c p) 0 (length t)
+
+abbrev pub three-children : List ℕ
+three-children = 3 ∷ 0 ∷ 1 ∷ 2 ∷ []
+
+-- each axis, from VP (row 4), VBD (row 5) or NP (row 1) of D, and from the first of three siblings
+pub axis-examples :
+    (from-row D 0 4 ≡ false ∷ false ∷ false ∷ false ∷ false ∷ true ∷ true ∷ false ∷ false ∷ false ∷ [])
+    × (from-row D 1 4 ≡ false ∷ false ∷ false ∷ false ∷ false ∷ true ∷ true ∷ true ∷ true ∷ true ∷ [])
+    × (from-row D 2 4 ≡ false ∷ false ∷ false ∷ false ∷ true ∷ true ∷ true ∷ true ∷ true ∷ true ∷ [])
+    × (from-row D 3 5 ≡ false ∷ false ∷ false ∷ false ∷ false ∷ false ∷ true ∷ false ∷ false ∷ false ∷ [])
+    × (from-row D 6 1 ≡ false ∷ false ∷ false ∷ false ∷ true ∷ true ∷ true ∷ true ∷ true ∷ true ∷ [])
+    × (from-row three-children 3 1 ≡ false ∷ false ∷ true ∷ false ∷ [])
+    × (from-row three-children 4 1 ≡ false ∷ false ∷ true ∷ true ∷ [])
+    × (from-row three-children 5 1 ≡ false ∷ true ∷ true ∷ true ∷ [])
+unfolding computing
+axis-examples = (refl, refl, refl, refl, refl, refl, refl, refl)
+
+-- one variable twice: Child(x,x) has no answer, Child*(x,x) every row; Child+ with Following is refused 6; no axis takes set 1
+abbrev twice : ℕ → Question
+twice c = record { variables = 1; head = 0 ∷ []; labels = []; axes = record { code = c; first = 0; second = 0 } ∷ [] }
+
+abbrev queryTold : List ℕ → Told
+queryTold codes = toldQuery (queryAnswer (record { variables = 1; head = []; labels = []; axes = map (λ c. record { code = c; first = 0; second = 0 }) codes }))
+
+pub query-examples :
+    (answers (problem D D-labels (twice 0)) ≡ [])
+    × (answers (problem D D-labels (twice 2)) ≡ (0 ∷ []) ∷ (1 ∷ []) ∷ (2 ∷ []) ∷ (3 ∷ []) ∷ (4 ∷ []) ∷ (5 ∷ []) ∷ (6 ∷ []) ∷ (7 ∷ []) ∷ (8 ∷ []) ∷ (9 ∷ []) ∷ [])
+    × (queryTold (1 ∷ 6 ∷ []) ≡ record { number = 6; place = 0; values = [] })
+    × (queryTold [] ≡ record { number = 0; place = 0; values = 1 ∷ [] })
+    × (queryTold (7 ∷ []) ≡ record { number = 5; place = 0; values = [] })
+unfolding computing
+query-examples = (refl, refl, refl, refl, refl)
