@@ -1,0 +1,5 @@
+pub mod Stack
+pub mod Check
+pub mod Columns
+pub mod Axes
+pub mod Laws

@@ -1,0 +1,296 @@
+// The tree table over its lent columns: the check, and for a table that was accepted its levels, its parents, a row's
+// key in each order, and the axis tests, each in constant time.
+//
+// Only check_table takes any input. The other functions are inner layers: their callers hold an accepted table, so they
+// require one (specs/Rows.antt, Accepted) and do not pay for the check again.
+use meaning::Refusal;
+use meaning::TableAnswer;
+ghost use mathlib.Core.Path.{_≡_};
+ghost use mathlib.Core.Bool.{cond};
+ghost use Prim.Native.Nat.{ℕ, _≤_, _<_};
+ghost use lib.Dec.{ltb, eqb};
+ghost use lib.ListN.{length, getD};
+ghost use Rattle.meaning.specs.Table as tree;
+ghost use Rattle.meaning.specs.Entries.{tableAnswer};
+ghost use Rattle.meaning.specs.Axes.{axisHolds, key};
+ghost use Rattle.meaning.specs.Tests.{_or_};
+ghost use Rattle.table.specs.Rows.{Accepted, isOnce, Stays, Filled, LevelOf, ParentOf, KeyOf, HasLevels, HasParents, isParent, isLater, isNext};
+
+// A number of a column as a number of rows.
+fn wide(x: u16) -> usize
+    ensures { λ r. ⌜ r ≡ x ⌝ }
+{
+    x as usize
+}
+
+// The table check: refusals 1, 2 and 3, the lowest first. One pass for each rule.
+pub fn check_table(post: &[u16], label: &[u16]) -> TableAnswer
+    ensures { λ r. ⌜ r ≡ tableAnswer (now (post .entry)) (now (label .entry)) ⌝ }
+{
+    if !is_sized(post, label) {
+        return TableAnswer::Refused(Refusal::Columns);
+    }
+    if !is_numbered(post) {
+        return TableAnswer::Refused(Refusal::PostNumbers);
+    }
+    if !is_nested(post) {
+        return TableAnswer::Refused(Refusal::ThreeRows);
+    }
+    TableAnswer::Tree
+}
+
+fn is_sized(post: &[u16], label: &[u16]) -> bool
+    ensures { λ r. ⌜ r ≡ tree.isSized (now (post .entry)) (now (label .entry)) ⌝ }
+{
+    if post.len() != label.len() {
+        return false;
+    }
+    if post.len() == 0 {
+        return false;
+    }
+    post.len() < 1025
+}
+
+fn is_numbered(post: &[u16]) -> bool
+    requires { ⌜ (0 < length (now post)) × (length (now post) ≤ 1024) ⌝ }
+    ensures { λ r. ⌜ r ≡ tree.isNumbered (now (post .entry)) ⌝ }
+{
+    if !is_once(post) {
+        return false;
+    }
+    wide(post[0]) + 1 == post.len()
+}
+
+// The post numbers are below n and no two are equal. `seen` has a place for each post number.
+fn is_once(post: &[u16]) -> bool
+    requires { ⌜ length (now post) ≤ 1024 ⌝ }
+    ensures { λ r. ⌜ r ≡ isOnce (now (post .entry)) ⌝ }
+{
+    let mut seen = [false; 1024];
+    let mut row: usize = 0;
+    while row < post.len() {
+        let x = wide(post[row]);
+        if post.len() <= x {
+            return false;
+        }
+        if seen[x] {
+            return false;
+        }
+        seen[x] = true;
+        row += 1;
+    }
+    true
+}
+
+// The three-row rule. `stack` holds the rows that no later row has closed by a larger post number, their post numbers
+// falling; `closed` is the largest post number of a closed row. A row below it breaks the rule.
+fn is_nested(post: &[u16]) -> bool
+    requires { ⌜ length (now post) ≤ 1024 ⌝ }
+    ensures { λ r. ⌜ r ≡ tree.isNested (now (post .entry)) ⌝ }
+{
+    let mut stack = [0u16; 1024];
+    let mut count: usize = 0;
+    let mut closed: u16 = 0;
+    let mut row: usize = 0;
+    while row < post.len() {
+        let x = post[row];
+        if x < closed {
+            return false;
+        }
+        let stay = staying(post, &stack, count, x);
+        closed = last_closed(post, &stack, count, stay, closed);
+        stack[stay] = row as u16;
+        count = stay + 1;
+        row += 1;
+    }
+    true
+}
+
+// How many of the open rows a row with post number x leaves open: it closes those with smaller numbers, which stand last.
+fn staying(post: &[u16], stack: &[u16; 1024], count: usize, x: u16) -> usize
+    requires { ⌜ (count ≤ 1024) × ((k : ℕ) → k < count → getD (now stack) k 0 < length (now post)) ⌝ }
+    ensures { λ r. ⌜ Stays (now (post .entry)) (now (stack .entry)) count x r ⌝ }
+{
+    let mut stay = count;
+    while 0 < stay {
+        let last = wide(stack[stay - 1]);
+        if x <= post[last] {
+            return stay;
+        }
+        stay -= 1;
+    }
+    0
+}
+
+// The first row that is closed now has the largest post number of all that are closed.
+fn last_closed(post: &[u16], stack: &[u16; 1024], count: usize, stay: usize, closed: u16) -> u16
+    requires { ⌜ (count ≤ 1024) × ((k : ℕ) → k < count → getD (now stack) k 0 < length (now post)) ⌝ }
+    ensures { λ r. ⌜ r ≡ cond (ltb stay count) (tree.post (now (post .entry)) (getD (now (stack .entry)) stay 0)) closed ⌝ }
+{
+    if stay < count {
+        let first = wide(stack[stay]);
+        return post[first];
+    }
+    closed
+}
+
+// A row's level is the number of rows that stay open above it.
+pub fn fill_levels(post: &[u16], levels: &mut [u16])
+    requires { ⌜ Accepted (now post) × (length (now post) ≤ length (now levels)) ⌝ }
+    ensures { λ _. ⌜ Filled 0 (length (now (post .entry))) (LevelOf (now (post .entry))) (now (levels .entry)) (now (levels .exit)) ⌝ }
+{
+    let mut stack = [0u16; 1024];
+    let mut count: usize = 0;
+    let mut row: usize = 0;
+    while row < post.len() {
+        let stay = staying(post, &stack, count, post[row]);
+        levels[row] = stay as u16;
+        stack[stay] = row as u16;
+        count = stay + 1;
+        row += 1;
+    }
+}
+
+// A row's parent is the last row that stays open above it. Row 0 has none; its place stays as it was.
+pub fn fill_parents(post: &[u16], parents: &mut [u16])
+    requires { ⌜ Accepted (now post) × (length (now post) ≤ length (now parents)) ⌝ }
+    ensures { λ _. ⌜ Filled 1 (length (now (post .entry))) (ParentOf (now (post .entry))) (now (parents .entry)) (now (parents .exit)) ⌝ }
+{
+    let mut stack = [0u16; 1024];
+    let mut count: usize = 1;
+    let mut row: usize = 1;
+    while row < post.len() {
+        let stay = staying(post, &stack, count, post[row]);
+        parents[row] = stack[stay - 1];
+        stack[stay] = row as u16;
+        count = stay + 1;
+        row += 1;
+    }
+}
+
+// Each row's key in the order of the set.
+pub fn fill_keys(set: u8, post: &[u16], levels: &[u16], keys: &mut [u32])
+    requires { ⌜ (length (now post) ≤ 1024) × HasLevels (now post) (now levels) × (length (now post) ≤ length (now keys)) ⌝ }
+    ensures { λ _. ⌜ Filled 0 (length (now (post .entry))) (KeyOf set (now (post .entry))) (now (keys .entry)) (now (keys .exit)) ⌝ }
+{
+    let mut row: usize = 0;
+    while row < post.len() {
+        keys[row] = key_of(set, post, levels, row);
+        row += 1;
+    }
+}
+
+fn key_of(set: u8, post: &[u16], levels: &[u16], row: usize) -> u32
+    requires { ⌜ (length (now post) ≤ 1024) × HasLevels (now post) (now levels) × (row < length (now post)) ⌝ }
+    ensures { λ r. ⌜ r ≡ key set (now (post .entry)) row ⌝ }
+{
+    if set < 2 {
+        return row as u32;
+    }
+    if set == 2 {
+        return post[row] as u32;
+    }
+    levels[row] as u32 * 1024 + row as u32
+}
+
+// Whether the axis of the code holds from row p to row q.
+pub fn axis_holds(post: &[u16], parents: &[u16], levels: &[u16], code: u8, p: usize, q: usize) -> bool
+    requires { ⌜ Accepted (now post) × HasParents (now post) (now parents) × HasLevels (now post) (now levels)
+      × (code < 7) × (p < length (now post)) × (q < length (now post)) ⌝ }
+    ensures { λ r. ⌜ r ≡ axisHolds (now (post .entry)) code p q ⌝ }
+{
+    if code == 0 {
+        return is_child(parents, p, q);
+    }
+    if code == 1 {
+        return is_below(post, p, q);
+    }
+    if code == 2 {
+        return is_self_or_below(post, p, q);
+    }
+    if code == 3 {
+        return is_next(post, parents, levels, p, q);
+    }
+    if code == 4 {
+        return is_later(parents, p, q);
+    }
+    if code == 5 {
+        return is_self_or_later(parents, p, q);
+    }
+    is_following(post, p, q)
+}
+
+fn is_child(parents: &[u16], p: usize, q: usize) -> bool
+    requires { ⌜ q < length (now parents) ⌝ }
+    ensures { λ r. ⌜ r ≡ isParent (now (parents .entry)) p q ⌝ }
+{
+    if q == 0 {
+        return false;
+    }
+    wide(parents[q]) == p
+}
+
+fn is_below(post: &[u16], p: usize, q: usize) -> bool
+    requires { ⌜ (p < length (now post)) × (q < length (now post)) ⌝ }
+    ensures { λ r. ⌜ r ≡ tree.below (now (post .entry)) p q ⌝ }
+{
+    if p < q {
+        return post[q] < post[p];
+    }
+    false
+}
+
+fn is_following(post: &[u16], p: usize, q: usize) -> bool
+    requires { ⌜ (p < length (now post)) × (q < length (now post)) ⌝ }
+    ensures { λ r. ⌜ r ≡ tree.follows (now (post .entry)) p q ⌝ }
+{
+    if p < q {
+        return post[p] < post[q];
+    }
+    false
+}
+
+fn is_self_or_below(post: &[u16], p: usize, q: usize) -> bool
+    requires { ⌜ (p < length (now post)) × (q < length (now post)) ⌝ }
+    ensures { λ r. ⌜ r ≡ (eqb p q or tree.below (now (post .entry)) p q) ⌝ }
+{
+    if p == q {
+        return true;
+    }
+    is_below(post, p, q)
+}
+
+// Siblings have one parent. Row 0 has none.
+fn is_later(parents: &[u16], p: usize, q: usize) -> bool
+    requires { ⌜ (p < length (now parents)) × (q < length (now parents)) ⌝ }
+    ensures { λ r. ⌜ r ≡ isLater (now (parents .entry)) p q ⌝ }
+{
+    if p == 0 {
+        return false;
+    }
+    if q <= p {
+        return false;
+    }
+    parents[p] == parents[q]
+}
+
+fn is_self_or_later(parents: &[u16], p: usize, q: usize) -> bool
+    requires { ⌜ (p < length (now parents)) × (q < length (now parents)) ⌝ }
+    ensures { λ r. ⌜ r ≡ (eqb p q or isLater (now (parents .entry)) p q) ⌝ }
+{
+    if p == q {
+        return true;
+    }
+    is_later(parents, p, q)
+}
+
+// The rows below p are those after it up to row post + level, so its next sibling is the row behind them.
+fn is_next(post: &[u16], parents: &[u16], levels: &[u16], p: usize, q: usize) -> bool
+    requires { ⌜ (p < length (now post)) × (p < length (now levels)) × (p < length (now parents)) × (q < length (now parents)) ⌝ }
+    ensures { λ r. ⌜ r ≡ isNext (now (post .entry)) (now (parents .entry)) (now (levels .entry)) p q ⌝ }
+{
+    if q != wide(post[p]) + wide(levels[p]) + 1 {
+        return false;
+    }
+    is_later(parents, p, q)
+}
