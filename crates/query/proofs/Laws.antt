@@ -1,19 +1,18 @@
 -- What the query check rests on: the tests over a query's arrays are the tests of the query as asked, and what an accepted query is known to have. Assumes nothing.
 use mathlib.Core.Path.{_≡_, refl, sym, ap, ap₂, _∙_}
-use mathlib.Core.Bool.{Bool, true, false, cond, false≢true, true≢false}
-use mathlib.Core.Logic.{_⊎_, inl, inr, ⊎-elim}
+use mathlib.Core.Bool.{Bool, true, false, cond, false≢true}
+use mathlib.Core.Logic.{_⊎_, inl, inr}
 use mathlib.Core.List.{List}
 use Prim.Native.Nat.{ℕ, zero, suc, _+_, _≤_, _<_}
+use native.Mathlib.Nat.{le-antisymm}
 use native.Mathlib.Omega.{arith}
 use lib.Dec.{ltb, leb, eqb}
 use lib.ListN.{length, getD}
-use borrow.Author.Tests.{ltb-true, ltb-false, leb-true, leb-false, eqb-true, eqb-false, lt-ltb, le-ltb, le-leb, lt-leb, eq-eqb, ne-eqb}
-use Rattle.meaning.specs.Tests.{Is, _&_, _or_, non, every, tab}
+use borrow.Author.Tests.{ltb-true, ltb-false, leb-true, eqb-true, eq-eqb}
+use Rattle.meaning.specs.Tests.{Is, _&_, _or_, non, every}
 use Rattle.meaning.specs.Axes.{axes, isAxis, axisOf, setOf}
 use Rattle.meaning.specs.Query.{Question, headAt, labelAt, axisAt, no-condition, no-label, firsts, asked, isCounted, isAxisNamed, isHeadNamed, isNamed, fits, isOfOneSet, takes}
-use Rattle.meaning.specs.Entries.{Ground, _when_, Verdict, lowest, queryGrounds, querySays, queryAnswer}
-use Rattle.meaning.specs.Entries.Ground.{_when_}
-use Rattle.meaning.specs.Entries.Verdict.{fine, refuse}
+use Rattle.meaning.specs.Entries.{lowest, queryGrounds, querySays, queryAnswer}
 use Rattle.meaning.specs.declared.Condition.{Condition}
 use Rattle.meaning.specs.declared.LabelCondition.{LabelCondition}
 use Rattle.meaning.specs.declared.Query.{Query}
@@ -21,8 +20,8 @@ use Rattle.meaning.specs.declared.Refusal.{Refusal}
 use Rattle.meaning.specs.declared.Refusal.the-variants.{Counts, Variables, Axes}
 use Rattle.meaning.specs.declared.QueryAnswer.{QueryAnswer}
 use Rattle.meaning.specs.declared.QueryAnswer.the-variants.{Accepted, Refused}
-use Rattle.theory.specs.Tests.{and-l, and-r, and-in, or-cases, or-l, or-r, not-is, is-not, every-at, every-in, every-same, tab-at, tab-length, not-so, same-test, below-suc}
-use Rattle.query.specs.Check.{areAxesNamed, areLabelsNamed, isAnother, isHead, areAxesOf, oneSet}
+use Rattle.theory.specs.Tests.{and-l, and-r, and-in, not-is, every-at, every-same, tab-at, tab-length, not-so}
+use Rattle.query.specs.Check.{areAxesNamed, areLabelsNamed, isHead, areAxesOf, oneSet}
 
 -- ---- the first places of an array
 
@@ -170,6 +169,9 @@ every-none p = refl
 pub every-more : (p : ℕ → Bool) (i : ℕ) → every i p ≡ true → p i ≡ true → every (i + 1) p ≡ true
 unfolding every
 every-more p i h e = let n : i + 1 ≡ suc i = omega arith in rw n (and-in (p i) (every i p) e h)
+
+pub every-done : (p : ℕ → Bool) (n i : ℕ) → i ≤ n → every i p ≡ true → n ≤ i → true ≡ every n p
+every-done p n i h e g = sym (ap (λ (k : ℕ). every k p) (le-antisymm g h) ∙ e)
 
 pub every-not : (p : ℕ → Bool) (n i : ℕ) → i < n → p i ≡ false → false ≡ every n p
 every-not p n i h e = sym (not-so (every n p) (λ t. false≢true (sym e ∙ every-at n p t i h)))

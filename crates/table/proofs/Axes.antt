@@ -8,40 +8,14 @@ use lib.Dec.{ltb, eqb}
 use lib.ListN.{getD}
 use borrow.Author.Tests.{ltb-true, eqb-true, lt-ltb, le-ltb, eq-eqb, ne-eqb}
 use Rattle.meaning.specs.Tests.{_&_, _or_, non}
-use Rattle.meaning.specs.Table.{post, below, child, later, next, follows}
-use Rattle.meaning.specs.Axes.{axes, axisOf, kindHolds, directed, axisHolds}
+use Rattle.meaning.specs.Table.{post, below, follows}
+use Rattle.meaning.specs.Axes.{axisHolds}
 use Rattle.theory.specs.Tests.{and-l, and-r, not-so}
 use Rattle.table.specs.Rows.{isParent, isLater, isNext}
 
 -- an axis by its code
-module _ (t : List ℕ) (p q c : ℕ) (b : Bool) where
-  pub axis-child : c ≡ 0 → b ≡ child t p q → b ≡ axisHolds t c p q
-  unfolding axisHolds axisOf axes directed kindHolds
-  axis-child e h = rw e h
-
-  pub axis-below : c ≡ 1 → b ≡ below t p q → b ≡ axisHolds t c p q
-  unfolding axisHolds axisOf axes directed kindHolds
-  axis-below e h = rw e h
-
-  pub axis-self-or-below : c ≡ 2 → b ≡ (eqb p q or below t p q) → b ≡ axisHolds t c p q
-  unfolding axisHolds axisOf axes directed kindHolds
-  axis-self-or-below e h = rw e h
-
-  pub axis-next : c ≡ 3 → b ≡ next t p q → b ≡ axisHolds t c p q
-  unfolding axisHolds axisOf axes directed kindHolds
-  axis-next e h = rw e h
-
-  pub axis-later : c ≡ 4 → b ≡ later t p q → b ≡ axisHolds t c p q
-  unfolding axisHolds axisOf axes directed kindHolds
-  axis-later e h = rw e h
-
-  pub axis-self-or-later : c ≡ 5 → b ≡ (eqb p q or later t p q) → b ≡ axisHolds t c p q
-  unfolding axisHolds axisOf axes directed kindHolds
-  axis-self-or-later e h = rw e h
-
-  pub axis-follows : c ≡ 6 → b ≡ follows t p q → b ≡ axisHolds t c p q
-  unfolding axisHolds axisOf axes directed kindHolds
-  axis-follows e h = rw e h
+pub axis-at : (t : List ℕ) (p q c k : ℕ) (b : Bool) → c ≡ k → b ≡ axisHolds t k p q → b ≡ axisHolds t c p q
+axis-at t p q c k b e h = rw e h
 
 -- tests by branches
 module _ (t : List ℕ) (p q : ℕ) where

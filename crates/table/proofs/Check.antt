@@ -10,14 +10,14 @@ use lib.Dec.{ltb, eqb}
 use lib.ListN.{length, getD, set}
 use lib.Seq.{getD-set-same, getD-set-other}
 use borrow.Author.Tests.{ltb-true, ltb-false, eqb-true, eqb-false, lt-ltb, le-ltb, eq-eqb}
-use Rattle.meaning.specs.Tests.{Is, _&_, _or_, non, every, some, count}
+use Rattle.meaning.specs.Tests.{Is, _&_, _or_, non, every, some}
 use Rattle.meaning.specs.Table.{post, isSized, isNumbered, isNested}
 use Rattle.meaning.specs.Entries.{lowest, tableGrounds, tableSays, tableAnswer}
 use Rattle.meaning.specs.declared.Refusal.the-variants.{Columns, PostNumbers, ThreeRows}
 use Rattle.meaning.specs.declared.TableAnswer.the-variants.{Tree as Accept, Refused}
 use Rattle.theory.specs.Tests.{and-l, and-r, and-in, not-is, is-not, not-so, below-suc, every-at, every-in, some-is, some-in}
-use Rattle.table.specs.Rows.{isOnce, Stays}
-use Rattle.table.proofs.Stack.{compare, set-new, Open, left}
+use Rattle.table.specs.Rows.{isOnce, Stays, Open}
+use Rattle.table.proofs.Stack.{compare, set-new, left}
 
 -- ---- equal columns of 1 to 1,024 rows
 

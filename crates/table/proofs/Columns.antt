@@ -6,13 +6,13 @@ use Prim.Native.Nat.{ℕ, zero, suc, _+_, _-_, _*_, _≤_, _<_}
 use native.Mathlib.Omega.{arith}
 use lib.ListN.{length, getD, set, length-set}
 use lib.Seq.{getD-set-other, ext-getD}
-use Rattle.meaning.specs.Tests.{Is, one, count}
+use Rattle.meaning.specs.Tests.{Is}
 use Rattle.meaning.specs.Table.{post, below, child, level}
 use Rattle.meaning.specs.Axes.{key}
 use Rattle.theory.specs.Tests.{not-so, below-suc, count-none, count-most}
 use Rattle.theory.specs.Trees.{Tree, below-is, below-in, level-child, nearest-child}
-use Rattle.table.specs.Rows.{Stays, Filled}
-use Rattle.table.proofs.Stack.{compare, set-new, Open}
+use Rattle.table.specs.Rows.{Stays, Open, Opened, Filled}
+use Rattle.table.proofs.Stack.{compare, set-new}
 
 -- ---- columns that are filled
 
@@ -43,9 +43,9 @@ module _ (from : ℕ) (Fits : ℕ → ℕ → Type 0) where
   filled-same n before x y one X Y =
       ext-getD 0 x y (X .size ∙ sym (Y .size))
       (λ r l. ⊎-elim
-        (λ m. X .others r (inl m) ∙ sym (Y .others r (inl m)))
-        (λ m. ⊎-elim (λ k. one r _ _ k (X .filled r m k) (Y .filled r m k)) (λ k. X .others r (inr k) ∙ sym (Y .others r (inr k))) (compare r n))
-        (compare r from))
+      (λ m. X .others r (inl m) ∙ sym (Y .others r (inl m)))
+      (λ m. ⊎-elim (λ k. one r _ _ k (X .filled r m k) (Y .filled r m k)) (λ k. X .others r (inr k) ∙ sym (Y .others r (inr k))) (compare r n))
+      (compare r from))
 
 -- ---- parents and levels
 
@@ -84,11 +84,14 @@ module _ (t : List ℕ) (T : Tree t) (stack : List ℕ) (i count stay : ℕ) (O 
         near z l m h (inr w) =
             ⊎-elim
             (λ u. ⊎-elim
-              (λ d. omega (arith, O .rising (w .0) (stay - 1) d lp, w .2))
-              (λ d. let e : w .0 ≡ stay - 1 = omega arith in let f : p ≡ z = ap (λ (k : ℕ). getD stack k 0) (sym e) ∙ w .2 in omega arith)
-              (compare (w .0) (stay - 1)))
+            (λ d. omega (arith, O .rising (w .0) (stay - 1) d lp, w .2))
+            (λ d. let e : w .0 ≡ stay - 1 = omega arith in let f : p ≡ z = ap (λ (k : ℕ). getD stack k 0) (sym e) ∙ w .2 in omega arith)
+            (compare (w .0) (stay - 1)))
             (λ u. let f : post t z < post t i = rw (w .2) at (S .closes (w .0) u (w .1)) in omega arith)
             (compare (w .0) stay)
+
+    pub opened-parent : (after : List ℕ) → Opened t i stack count stay after → Is (child t (getD after (stay - 1) 0) i)
+    opened-parent after W = subst (λ (p : ℕ). Is (child t p i)) (sym (W .above (stay - 1) (omega (arith, root-stays)))) parent-is
 
 -- a row's level is its place in the stack
 abbrev pub Leveled : List ℕ → List ℕ → ℕ → Type 0
@@ -113,12 +116,12 @@ module _ (t : List ℕ) (T : Tree t) (stack : List ℕ) (i count stay : ℕ) (O 
           let k : stay - 1 < count = omega (arith, S .most) in
           omega (arith, level-child t T (getD stack (stay - 1) 0) i (omega (arith, O .rows (stay - 1) k)) high (parent-is t T stack i count stay O S h high), L (stay - 1) k)
 
-  pub leveled-more : stay < length stack → Leveled t (set stack stay i) (stay + 1)
-  leveled-more room k l =
-      ⊎-elim
-      (λ m. ap (level t) (getD-set-other stack stay k i 0 (λ e. omega arith)) ∙ L k (omega (arith, S .most)))
-      (λ e. ap (level t) (set-new stack stay k i e room) ∙ (sym level-is ∙ sym e))
-      (below-suc {k = k} {n = stay} (omega arith))
+pub leveled-more : (t stack after : List ℕ) (i count stay : ℕ) → Opened t i stack count stay after → Leveled t stack count → stay ≡ level t i → Leveled t after (stay + 1)
+leveled-more t stack after i count stay W L e k l =
+    ⊎-elim
+    (λ m. ap (level t) (W .above k m) ∙ L k (omega (arith, W .stays .most)))
+    (λ m. ap (level t) (ap (λ (j : ℕ). getD after j 0) m ∙ W .self) ∙ (sym e ∙ sym m))
+    (below-suc {k = k} {n = stay} (omega arith))
 
 -- ---- keys
 

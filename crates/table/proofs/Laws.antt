@@ -15,7 +15,7 @@ use Rattle.meaning.specs.Entries.{tableAnswer}
 use Rattle.meaning.specs.declared.Refusal.{Refusal}
 use Rattle.meaning.specs.declared.TableAnswer.the-variants.{Tree as Accept, Refused}
 use Rattle.theory.specs.Tests.{and-l, and-r, and-in, not-is, is-not, same-test, some-is, count-le, count-split, one-of}
-use Rattle.theory.specs.Trees.{Tree, below-is, below-in, child-is, child-in, later-is, later-in, next-is, below-between, under-is, post-is, one-parent}
+use Rattle.theory.specs.Trees.{Tree, below-is, below-in, child-is, child-in, later-is, later-in, next-is, below-between, level-child, under-is, post-is, one-parent}
 use Rattle.table.specs.Rows.{Accepted, Filled, LevelOf, ParentOf, KeyOf, HasLevels, HasParents, isParent, isLater, isNext}
 use Rattle.table.proofs.Stack.{compare}
 use Rattle.table.proofs.Check.{sized-is, refused-1, refused-2, refused-3}
@@ -66,8 +66,12 @@ module _ (t before x y : List ℕ) where
 -- the numbers between two
 between-count : (n a b : ℕ) → a < b → b ≤ n → count n (λ k. ltb a k & ltb k b) + (a + 1) ≡ b
 between-count n a b l h =
-    omega (arith, under-is n (λ k. k) (λ k m. m) (λ j k u w e. omega arith) b h, under-is n (λ k. k) (λ k m. m) (λ j k u w e. omega arith) (a + 1) (omega arith),
-      count-split n (λ k. ltb k b) (λ k. ltb k (a + 1)) (λ k. ltb a k & ltb k b) each)
+    omega (
+      arith,
+      under-is n (λ k. k) (λ k m. m) (λ j k u w e. omega arith) b h,
+      under-is n (λ k. k) (λ k m. m) (λ j k u w e. omega arith) (a + 1) (omega arith),
+      count-split n (λ k. ltb k b) (λ k. ltb k (a + 1)) (λ k. ltb a k & ltb k b) each,
+    )
   where
     each : (k : ℕ) → k < n → one (ltb k b) ≡ one (ltb k (a + 1)) + one (ltb a k & ltb k b)
     each k m = one-of _ _ _ (λ e. lt-ltb k b (omega (arith, ltb-true k (a + 1) e))) (λ e. and-r _ _ e)
@@ -78,8 +82,12 @@ between-count n a b l h =
 module _ (t : List ℕ) (T : Tree t) (p : ℕ) (lp : p < length t) where
   pub inside : (z : ℕ) → z < length t → Is (below t p z) → z ≤ post t p + level t p
   inside z lz h =
-      omega (arith, post-is t T p lp, between-count (length t) p (z + 1) (omega (arith, below-is t p z h)) (omega arith),
-        count-le (length t) (λ k. ltb p k & ltb k (z + 1)) (λ k. below t p k) sub)
+      omega (
+        arith,
+        post-is t T p lp,
+        between-count (length t) p (z + 1) (omega (arith, below-is t p z h)) (omega arith),
+        count-le (length t) (λ k. ltb p k & ltb k (z + 1)) (λ k. below t p k) sub,
+      )
     where
       sub : (k : ℕ) → k < length t → Is (ltb p k & ltb k (z + 1)) → Is (below t p k)
       sub k l e =
@@ -89,23 +97,47 @@ module _ (t : List ℕ) (T : Tree t) (p : ℕ) (lp : p < length t) where
 
   pub outside : (z : ℕ) → p < z → z < length t → (Is (below t p z) → ⊥) → post t p + level t p < z
   outside z m lz h =
-      omega (arith, post-is t T p lp, between-count (length t) p z m (omega arith),
-        count-le (length t) (λ k. below t p k) (λ k. ltb p k & ltb k z) sub)
+      omega (
+        arith,
+        post-is t T p lp,
+        between-count (length t) p z m (omega arith),
+        count-le (length t) (λ k. below t p k) (λ k. ltb p k & ltb k z) sub,
+      )
     where
       sub : (k : ℕ) → k < length t → Is (below t p k) → Is (ltb p k & ltb k z)
       sub k l e =
           and-in _ _ (lt-ltb p k (below-is t p k e .0))
           (⊎-elim (λ u. lt-ltb k z u)
-            (λ u. absurd (h (⊎-elim (λ w. below-between t T p z k m w l e) (λ w. subst (λ (x : ℕ). Is (below t p x)) (let f : k ≡ z = omega arith in f) e) (compare z k))))
-            (compare k z))
+          (λ u. absurd (h (⊎-elim (λ w. below-between t T p z k m w l e) (λ w. subst (λ (x : ℕ). Is (below t p x)) (let f : k ≡ z = omega arith in f) e) (compare z k))))
+          (compare k z))
 
-  -- of two numbers of rows: below p exactly if after p and not past that row
+  -- and the other way round
   pub below-rows : (z : ℕ) → p < z → z < length t → z ≤ post t p + level t p → Is (below t p z)
   below-rows z m lz h = go (below t p z) refl
     where
       go : (b : Bool) → below t p z ≡ b → Is (below t p z)
       go true e = e
       go false e = absurd (omega (arith, outside z m lz (λ f. false≢true (sym e ∙ f))))
+
+  -- that row is a row of the table
+  pub last-below : post t p + level t p < length t
+  last-below =
+      omega (
+        arith,
+        post-is t T p lp,
+        between-count (length t) p (length t) lp (omega arith),
+        count-le (length t) (λ k. below t p k) (λ k. ltb p k & ltb k (length t)) (λ k l e. and-in _ _ (lt-ltb p k (below-is t p k e .0)) (lt-ltb k (length t) l)),
+      )
+
+-- a row has at most as many ancestors as rows before it
+pub level-row : (t : List ℕ) (r : ℕ) → r < length t → level t r ≤ r
+unfolding level
+level-row t r l =
+    omega (
+      arith,
+      under-is (length t) (λ k. k) (λ k m. m) (λ j k u w e. omega arith) r (omega arith),
+      count-le (length t) (λ z. below t z r) (λ z. ltb z r) (λ k m e. lt-ltb k r (below-is t k r e .0)),
+    )
 
 module _ (t : List ℕ) (T : Tree t) where
   -- a later sibling is not below
@@ -133,9 +165,9 @@ module _ (t : List ℕ) (T : Tree t) where
           ⊎-elim
           (λ u. child-is t z p c .1 y ly a (below-between t T y p e u pe le b))
           (λ u. ⊎-elim
-            (λ v. let py = below-is t p y (below-rows t T p lp y v ly (omega arith)) in out (below-in t p e pe (omega arith)))
-            (λ v. out (subst (λ (x : ℕ). Is (below t x e)) (let g : y ≡ p = omega arith in g) b))
-            (compare p y))
+          (λ v. let py = below-is t p y (below-rows t T p lp y v ly (omega arith)) in out (below-in t p e pe (omega arith)))
+          (λ v. out (subst (λ (x : ℕ). Is (below t x e)) (let g : y ≡ p = omega arith in g) b))
+          (compare p y))
           (compare y p)
 
   -- the next sibling is the row behind the rows below
@@ -144,11 +176,11 @@ module _ (t : List ℕ) (T : Tree t) where
   next-in p q lp lq h e =
       and-in _ _ h
       (is-not _ (λ f.
-        let w = some-is _ _ f in
-        let y = w .0 in
-        let u = and-l _ _ (w .2) in
-        let v = and-r _ _ (w .2) in
-        sibling-apart p y lp (w .1) u (below-rows t T p lp y (later-is t p y u .0) (w .1) (omega (arith, later-is t y q v .0)))))
+      let w = some-is _ _ f in
+      let y = w .0 in
+      let u = and-l _ _ (w .2) in
+      let v = and-r _ _ (w .2) in
+      sibling-apart p y lp (w .1) u (below-rows t T p lp y (later-is t p y u .0) (w .1) (omega (arith, later-is t y q v .0)))))
 
   pub next-row : (p q : ℕ) → p < length t → q < length t → Is (next t p q) → q ≡ post t p + level t p + 1
   next-row p q lp lq h =
@@ -180,6 +212,13 @@ module _ (t : List ℕ) (T : Tree t) (parents : List ℕ) (P : HasParents t pare
       let c = P .each q (omega arith) lq in
       one-parent t T (getD parents q 0) p q (omega (arith, child-after t (getD parents q 0) q c)) (omega arith) lq c h
 
+  -- it stands before its child, one level higher
+  pub parent-before : (q : ℕ) → 0 < q → q < length t → getD parents q 0 < q
+  parent-before q k lq = child-after t (getD parents q 0) q (P .each q k lq)
+
+  pub parent-level : (q : ℕ) → 0 < q → q < length t → level t q ≡ level t (getD parents q 0) + 1
+  parent-level q k lq = level-child t T (getD parents q 0) q (omega (arith, parent-before q k lq)) lq (P .each q k lq)
+
   -- siblings are rows with one parent
   pub siblings-in : (p q : ℕ) → 0 < p → p < q → q < length t → getD parents p 0 ≡ getD parents q 0 → Is (later t p q)
   siblings-in p q k l lq e =
@@ -190,8 +229,7 @@ module _ (t : List ℕ) (T : Tree t) (parents : List ℕ) (P : HasParents t pare
   pub siblings-is : (p q : ℕ) → q < length t → Is (later t p q) → (0 < p) × (p < q) × (getD parents p 0 ≡ getD parents q 0)
   siblings-is p q lq h =
       let w = later-is t p q h in
-      let z = w .1 .0 in
-      (
+      let z = w .1 .0 in (
         omega (arith, child-after t z p (w .1 .2)),
         w .0,
         parent-same z p (omega (arith, w .0)) (w .1 .2) ∙ sym (parent-same z q lq (w .1 .3)),
@@ -207,11 +245,11 @@ module _ (t : List ℕ) (T : Tree t) (parents : List ℕ) (P : HasParents t pare
   unfolding isLater
   parent-later p q lq = same-test _ _
       (λ h.
-        let k = and-r _ _ h in
-        siblings-in p q (not-zero p (and-l _ _ h)) (ltb-true p q (and-l _ _ k)) lq (eqb-true (getD parents p 0) (getD parents q 0) (and-r _ _ k)))
+      let k = and-r _ _ h in
+      siblings-in p q (not-zero p (and-l _ _ h)) (ltb-true p q (and-l _ _ k)) lq (eqb-true (getD parents p 0) (getD parents q 0) (and-r _ _ k)))
       (λ h.
-        let w = siblings-is p q lq h in
-        and-in _ _ (zero-not p (w .0)) (and-in _ _ (lt-ltb p q (w .1)) (eq-eqb (getD parents p 0) (getD parents q 0) (w .2))))
+      let w = siblings-is p q lq h in
+      and-in _ _ (zero-not p (w .0)) (and-in _ _ (lt-ltb p q (w .1)) (eq-eqb (getD parents p 0) (getD parents q 0) (w .2))))
 
   pub parent-next : (levels : List ℕ) → HasLevels t levels → (p q : ℕ) → p < length t → q < length t → isNext t parents levels p q ≡ next t p q
   unfolding isNext

@@ -6,13 +6,12 @@ use mathlib.Core.List.{List}
 use Prim.Native.Nat.{ℕ, _+_, _-_, _≤_, _<_}
 use native.Mathlib.Omega.{arith}
 use lib.Dec.{ltb}
-use lib.ListN.{length, getD, set}
+use lib.ListN.{length, getD, set, length-set}
 use lib.Seq.{getD-set-same, getD-set-other}
 use borrow.Author.Tests.{ltb-true, ltb-false}
-use Rattle.meaning.specs.Tests.{count}
 use Rattle.meaning.specs.Table.{post}
 use Rattle.theory.specs.Tests.{below-suc}
-use Rattle.table.specs.Rows.{Stays}
+use Rattle.table.specs.Rows.{Stays, Open, Opened}
 
 -- the test of two numbers, both ways
 pub compare : (a b : ℕ) → (a < b) ⊎ (b ≤ a)
@@ -44,15 +43,6 @@ module _ (t stack : List ℕ) (count x stay : ℕ) (most : stay ≤ count) (h : 
 
   pub stays-none : stay ≤ 0 → Stays t stack count x 0
   stays-none l = record { most = omega arith; closes = λ k u. h k (omega arith); leaves = λ k f. absurd (omega arith) }
-
--- of the rows below i: `stack` holds at its first `count` places, rising, rows with falling post numbers; and each other row
--- is closed, by a later row with a larger post number
-pub record Open (t : List ℕ) (i : ℕ) (stack : List ℕ) (count : ℕ) : Type 0 where
-  pub most : count ≤ i
-  pub rows : (k : ℕ) → k < count → getD stack k 0 < i
-  pub rising : (j k : ℕ) → j < k → k < count → getD stack j 0 < getD stack k 0
-  pub falling : (j k : ℕ) → j < k → k < count → post t (getD stack k 0) ≤ post t (getD stack j 0)
-  pub each : (a : ℕ) → a < i → ((b : ℕ) × (a < b) × (b < i) × (post t a < post t b)) ⊎ ((k : ℕ) × (k < count) × (getD stack k 0 ≡ a))
 
 pub open-none : (t stack : List ℕ) → Open t 0 stack 0
 open-none t stack = record {
@@ -113,3 +103,13 @@ open-root t stack e = record {
   falling = λ j k m l. absurd (omega arith);
   each = λ a l. inr (0, omega arith, omega (arith, e));
 }
+
+module _ (t stack : List ℕ) (i count stay : ℕ) (O : Open t i stack count) (S : Stays t stack count (post t i) stay) (room : stay < length stack) where
+  pub opened : Opened t i stack count stay (set stack stay i)
+  opened = record {
+    size = length-set stack stay i;
+    stays = S;
+    above = λ k l. getD-set-other stack stay k i 0 (λ e. omega arith);
+    self = getD-set-same stack stay i 0 room;
+    rows = open-more t stack i count stay O S room;
+  }

@@ -14,7 +14,7 @@ ghost use Rattle.meaning.specs.Table as tree;
 ghost use Rattle.meaning.specs.Entries.{tableAnswer};
 ghost use Rattle.meaning.specs.Axes.{axisHolds, key};
 ghost use Rattle.meaning.specs.Tests.{_or_};
-ghost use Rattle.table.specs.Rows.{Accepted, isOnce, Stays, Filled, LevelOf, ParentOf, KeyOf, HasLevels, HasParents, isParent, isLater, isNext};
+ghost use Rattle.table.specs.Rows.{Accepted, isOnce, Stays, Open, Opened, Filled, LevelOf, ParentOf, KeyOf, HasLevels, HasParents, isParent, isLater, isNext};
 
 // A number of a column as a number of rows.
 fn wide(x: u16) -> usize
@@ -134,6 +134,16 @@ fn last_closed(post: &[u16], stack: &[u16; 1024], count: usize, stay: usize, clo
     closed
 }
 
+// Row `row` closes the open rows with smaller post numbers and is open itself: how many stay open above it.
+fn open_row(post: &[u16], stack: &mut [u16; 1024], count: usize, row: usize) -> usize
+    requires { ⌜ (length (now post) ≤ 1024) × (row < length (now post)) × Open (now post) row (now stack) count × (length (now stack) ≡ 1024) ⌝ }
+    ensures { λ r. ⌜ Opened (now (post .entry)) row (now (stack .entry)) count r (now (stack .exit)) ⌝ }
+{
+    let stay = staying(post, stack, count, post[row]);
+    stack[stay] = row as u16;
+    stay
+}
+
 // A row's level is the number of rows that stay open above it.
 pub fn fill_levels(post: &[u16], levels: &mut [u16])
     requires { ⌜ Accepted (now post) × (length (now post) ≤ length (now levels)) ⌝ }
@@ -143,9 +153,8 @@ pub fn fill_levels(post: &[u16], levels: &mut [u16])
     let mut count: usize = 0;
     let mut row: usize = 0;
     while row < post.len() {
-        let stay = staying(post, &stack, count, post[row]);
+        let stay = open_row(post, &mut stack, count, row);
         levels[row] = stay as u16;
-        stack[stay] = row as u16;
         count = stay + 1;
         row += 1;
     }
@@ -160,9 +169,8 @@ pub fn fill_parents(post: &[u16], parents: &mut [u16])
     let mut count: usize = 1;
     let mut row: usize = 1;
     while row < post.len() {
-        let stay = staying(post, &stack, count, post[row]);
+        let stay = open_row(post, &mut stack, count, row);
         parents[row] = stack[stay - 1];
-        stack[stay] = row as u16;
         count = stay + 1;
         row += 1;
     }
@@ -194,9 +202,16 @@ fn key_of(set: u8, post: &[u16], levels: &[u16], row: usize) -> u32
 }
 
 // Whether the axis of the code holds from row p to row q.
-pub fn axis_holds(post: &[u16], parents: &[u16], levels: &[u16], code: u8, p: usize, q: usize) -> bool
+pub fn axis_holds(
+    post: &[u16],
+    parents: &[u16],
+    levels: &[u16],
+    code: u8,
+    p: usize,
+    q: usize,
+) -> bool
     requires { ⌜ Accepted (now post) × HasParents (now post) (now parents) × HasLevels (now post) (now levels)
-      × (code < 7) × (p < length (now post)) × (q < length (now post)) ⌝ }
+        × (code < 7) × (p < length (now post)) × (q < length (now post)) ⌝ }
     ensures { λ r. ⌜ r ≡ axisHolds (now (post .entry)) code p q ⌝ }
 {
     if code == 0 {
@@ -206,7 +221,7 @@ pub fn axis_holds(post: &[u16], parents: &[u16], levels: &[u16], code: u8, p: us
         return is_below(post, p, q);
     }
     if code == 2 {
-        return is_self_or_below(post, p, q);
+        return is_self_or(p, q, is_below(post, p, q));
     }
     if code == 3 {
         return is_next(post, parents, levels, p, q);
@@ -215,7 +230,7 @@ pub fn axis_holds(post: &[u16], parents: &[u16], levels: &[u16], code: u8, p: us
         return is_later(parents, p, q);
     }
     if code == 5 {
-        return is_self_or_later(parents, p, q);
+        return is_self_or(p, q, is_later(parents, p, q));
     }
     is_following(post, p, q)
 }
@@ -250,14 +265,14 @@ fn is_following(post: &[u16], p: usize, q: usize) -> bool
     false
 }
 
-fn is_self_or_below(post: &[u16], p: usize, q: usize) -> bool
-    requires { ⌜ (p < length (now post)) × (q < length (now post)) ⌝ }
-    ensures { λ r. ⌜ r ≡ (eqb p q or tree.below (now (post .entry)) p q) ⌝ }
+// Of an axis with a star: the row itself, or what the axis without it says.
+fn is_self_or(p: usize, q: usize, holds: bool) -> bool
+    ensures { λ r. ⌜ r ≡ (eqb p q or holds) ⌝ }
 {
     if p == q {
         return true;
     }
-    is_below(post, p, q)
+    holds
 }
 
 // Siblings have one parent. Row 0 has none.
@@ -272,16 +287,6 @@ fn is_later(parents: &[u16], p: usize, q: usize) -> bool
         return false;
     }
     parents[p] == parents[q]
-}
-
-fn is_self_or_later(parents: &[u16], p: usize, q: usize) -> bool
-    requires { ⌜ (p < length (now parents)) × (q < length (now parents)) ⌝ }
-    ensures { λ r. ⌜ r ≡ (eqb p q or isLater (now (parents .entry)) p q) ⌝ }
-{
-    if p == q {
-        return true;
-    }
-    is_later(parents, p, q)
 }
 
 // The rows below p are those after it up to row post + level, so its next sibling is the row behind them.

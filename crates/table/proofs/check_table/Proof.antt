@@ -1,10 +1,19 @@
 -- `table::check_table` meets its contract: each refusal from the test that fails, the lowest first. Assumes nothing.
-use mathlib.Core.Path.{sym, _∙_}
+use mathlib.Core.Path.{_≡_, sym, _∙_}
+use mathlib.Core.Bool.{true}
 use borrow.Author.Needs.{needs}
 use borrow.Author.Tests.{not-true, not-false}
+use Rattle.meaning.specs.Table.{isSized, isNumbered}
 use Rattle.table.proofs.Check.{sized-is, refused-1, refused-2, refused-3, accepted}
 use Rattle.table.proofs.check_table.Statement.{statement}
 use Rattle.table.proofs.check_table.Tie as tie
+
+-- what is known once a test was passed
+sized : (c : tie.Else1) → let a = c .before .before .before .before .args in true ≡ isSized (a .post .now) (a .label .now)
+sized c = sym (not-false _ (c .if1 .left)) ∙ c .before .is-sized .ensures
+
+numbered : (c : tie.Else2) → true ≡ isNumbered (c .before .before .before .before .before .before .args .post .now)
+numbered c = sym (not-false _ (c .if2 .left)) ∙ c .before .is-numbered .ensures
 
 is-sized-requires : tie.Need-is-sized-requires
 is-sized-requires c κs = search needs
@@ -13,19 +22,19 @@ returns : tie.Need-returns
 returns c = refused-1 _ _ (sym (not-true _ (c .if1 .taken)) ∙ c .before .is-sized .ensures)
 
 is-numbered-requires : tie.Need-is-numbered-requires
-is-numbered-requires c κs = sized-is _ _ (sym (c .before .is-sized .ensures) ∙ not-false _ (c .if1 .left))
+is-numbered-requires c κs = sized-is _ _ (sym (sized c))
 
 returns-2 : tie.Need-returns-2
-returns-2 c = let a = c .before .before in refused-2 _ _ (sym (not-false _ (a .if1 .left)) ∙ a .before .is-sized .ensures) (sym (not-true _ (c .if2 .taken)) ∙ c .before .is-numbered .ensures)
+returns-2 c = refused-2 _ _ (sized (c .before .before)) (sym (not-true _ (c .if2 .taken)) ∙ c .before .is-numbered .ensures)
 
 is-nested-requires : tie.Need-is-nested-requires
-is-nested-requires c κs = let a = c .before .before in sized-is _ _ (sym (a .before .is-sized .ensures) ∙ not-false _ (a .if1 .left)) .1
+is-nested-requires c κs = sized-is _ _ (sym (sized (c .before .before))) .1
 
 returns-3 : tie.Need-returns-3
-returns-3 c = let b = c .before .before in let a = b .before .before in refused-3 _ _ (sym (not-false _ (a .if1 .left)) ∙ a .before .is-sized .ensures) (sym (not-false _ (b .if2 .left)) ∙ b .before .is-numbered .ensures) (sym (not-true _ (c .if3 .taken)) ∙ c .before .is-nested .ensures)
+returns-3 c = let n = c .before .before in refused-3 _ _ (sized (n .before .before)) (numbered n) (sym (not-true _ (c .if3 .taken)) ∙ c .before .is-nested .ensures)
 
 returns-4 : tie.Need-returns-4
-returns-4 c = let b = c .before .before in let a = b .before .before in accepted _ _ (sym (not-false _ (a .if1 .left)) ∙ a .before .is-sized .ensures) (sym (not-false _ (b .if2 .left)) ∙ b .before .is-numbered .ensures) (sym (not-false _ (c .if3 .left)) ∙ c .before .is-nested .ensures)
+returns-4 c = let n = c .before .before in accepted _ _ (sized (n .before .before)) (numbered n) (sym (not-false _ (c .if3 .left)) ∙ c .before .is-nested .ensures)
 
 pub check-table-spec : {M : Type 1} → statement M
 check-table-spec =

@@ -5,7 +5,8 @@ use native.Mathlib.Omega.{arith}
 use lib.ListN.{length}
 use borrow.Author.Needs.{needs}
 use Rattle.table.proofs.Check.{Closed, closed-none, closed-more, nested-broken, nested-kept}
-use Rattle.table.proofs.Stack.{Open, open-none, open-more}
+use Rattle.table.specs.Rows.{Open}
+use Rattle.table.proofs.Stack.{open-none, open-more}
 use Rattle.table.proofs.is_nested.Statement.{statement}
 use Rattle.table.proofs.is_nested.Tie as tie
 
@@ -36,14 +37,18 @@ last-closed-requires c κs = let a = c .before .before .before .before .before .
 cast-stack : tie.Need-cast-stack Inv-loop μ-loop
 cast-stack c = search needs
 
+-- the stack has room for every row
+room : (c : tie.After-last-closed Inv-loop μ-loop) → c .before .before .staying .result < 1024
+room c = omega (arith, c .before .before .staying .ensures .most, c .before .before .before .before .before .before .before .loop .inv .2 .most)
+
 mul-stack : tie.Need-mul-stack Inv-loop μ-loop
-mul-stack c = let a = c .before .before .before .before .before .before .before in omega (arith, c .before .before .staying .ensures .most, a .loop .inv .2 .most)
+mul-stack c = omega (arith, room c)
 
 array-write-stack : tie.Need-array-write-stack Inv-loop μ-loop
-array-write-stack c = let a = c .before .before .before .before .before .before .before in omega (arith, c .before .before .staying .ensures .most, a .loop .inv .2 .most)
+array-write-stack c = omega (arith, room c)
 
 add-count : tie.Need-add-count Inv-loop μ-loop
-add-count c = let a = c .before .before .before .before .before .before .before in omega (arith, c .before .before .staying .ensures .most, a .loop .inv .2 .most)
+add-count c = omega (arith, room c)
 
 add-row : tie.Need-add-row Inv-loop μ-loop
 add-row c = search needs
@@ -54,12 +59,11 @@ loop-less c = search needs
 loop-again : tie.Need-loop-again Inv-loop μ-loop
 loop-again c = let a = c .before .before .before .before .before .before .before in
     let s = c .before .before .staying in
-    let room : s .result < length (a .loop .stack) = omega (arith, s .ensures .most, a .loop .inv .2 .most) in
-    (
+    let fits : s .result < length (a .loop .stack) = omega (arith, room c) in (
       search needs,
       search needs,
-      open-more _ _ _ _ _ (a .loop .inv .2) (s .ensures) room,
-      closed-more _ _ _ _ _ _ (a .loop .inv .2) (a .loop .inv .3) (s .ensures) (c .before .before .before .before .if1 .left) _ (c .last-closed .ensures) room,
+      open-more _ _ _ _ _ (a .loop .inv .2) (s .ensures) fits,
+      closed-more _ _ _ _ _ _ (a .loop .inv .2) (a .loop .inv .3) (s .ensures) (c .before .before .before .before .if1 .left) _ (c .last-closed .ensures) fits,
     )
 
 returns-2 : tie.Need-returns-2 Inv-loop μ-loop

@@ -1,0 +1,59 @@
+// Each function of sets against a plain loop over rows. Writes a line for each group of checks: 0 where all is right.
+mod rows;
+
+fn say(n: u64) {
+    io::print_decimal(1, n);
+    io::write_all(1, b"\n");
+}
+
+fn say_right(right: bool) {
+    if right {
+        say(0);
+    } else {
+        say(1);
+    }
+}
+
+// A set of n rows in a buffer of 24 words, its words from word `at` on: filled, emptied, changed row by row, held to a mask.
+fn set_of(n: usize, at: usize) {
+    let mut s = [0u64; 24];
+    let mut mask = [0u64; 24];
+    let mut keys = [0u32; 1024];
+    rows::set_keys(&mut keys);
+    rows::set_mask(&mut mask, n);
+    say_right(rows::fills(&mut s, at, n, &keys));
+    say_right(rows::empties(&mut s, at, n, &keys));
+    say_right(rows::adds(&mut s, at, n, &keys));
+    say_right(rows::strikes(&mut s, at, n, &keys));
+    say_right(rows::keeps(&mut s, at, n, &mask, &keys));
+}
+
+// The same held to a label, and cleared.
+fn labels_of(n: usize, at: usize) {
+    let mut s = [0u64; 24];
+    let mut label = [0u16; 1024];
+    let mut keys = [0u32; 1024];
+    rows::set_labels(&mut label);
+    rows::set_keys(&mut keys);
+    say_right(rows::starts(&mut s, at, n));
+    say_right(rows::adds_last(&mut s, at, n, &keys));
+    say_right(rows::keeps_label(&mut s, at, n, &label, &keys));
+    say_right(rows::clears(&mut s, rows::width(n)));
+}
+
+fn sets_of(n: usize, at: usize) {
+    set_of(n, at);
+    labels_of(n, at);
+}
+
+fn main() {
+    say_right(rows::widths());
+    sets_of(1, 0);
+    sets_of(1, 23);
+    sets_of(63, 3);
+    sets_of(64, 0);
+    sets_of(64, 22);
+    sets_of(65, 5);
+    sets_of(1023, 8);
+    sets_of(1024, 0);
+}
