@@ -32,6 +32,12 @@ lowest-refused [] b r h = absurd (let z : _≡_ {A = ℕ} 0 1 = cc in omega arit
 lowest-refused ((q when true) ∷ a) b r h = h
 lowest-refused ((q when false) ∷ a) b r h = lowest-refused a b r h
 
+pub lowest-both : (a b : List Ground) → lowest (a ++ b) ≡ fine → (lowest a ≡ fine) × (lowest b ≡ fine)
+unfolding lowest
+lowest-both [] b h = (refl, h)
+lowest-both ((r when true) ∷ a) b h = absurd (let z : _≡_ {A = ℕ} 0 1 = cc in omega arith)
+lowest-both ((r when false) ∷ a) b h = lowest-both a b h
+
 -- not refused: the first ground does not apply, and the others are judged
 pub lowest-past : (r : Refusal) (c : Bool) (gs : List Ground) → Is c → lowest ((r when non c) ∷ gs) ≡ lowest gs
 unfolding lowest non
