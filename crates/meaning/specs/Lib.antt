@@ -8,4 +8,6 @@ pub mod Answers
 pub mod Listing
 pub mod Told
 pub mod Entries
+pub mod Names
+pub mod Sentences
 pub mod Examples

@@ -1,0 +1,20 @@
+-- What the contracts in src cite (Reader, Lines, Meets), and the laws that tie it to the definitions of meaning. Assumes nothing.
+pub mod Both
+pub mod Texts
+pub mod Reader
+pub mod Lines
+pub mod Meets
+pub mod Steps
+pub mod Pieces
+pub mod Machine
+pub mod Fits
+pub mod Right
+pub mod Same
+pub mod Pairs
+pub mod Whole
+pub mod Unique
+pub mod Limits
+pub mod Table
+pub mod Rest
+pub mod Numbers
+pub mod Examples

@@ -1,0 +1,76 @@
+// White space, labels and words.
+ghost use mathlib.Core.Path.{_≡_};
+ghost use Prim.Native.Nat.{ℕ, _≤_};
+ghost use lib.ListN.{length, getD, drop};
+ghost use Rattle.meaning.specs.Sentences.{white, inner};
+ghost use Rattle.brackets.specs.Reader.{skip, past};
+
+// The byte at a place, and 0 past the end: no byte of a sentence is 0.
+pub(crate) fn peek(text: &[u8], at: usize) -> u8
+    ensures { λ b. ⌜ b ≡ getD (now (text .entry)) at 0 ⌝ }
+{
+    if at < text.len() { text[at] } else { 0 }
+}
+
+pub(crate) fn is_white(b: u8) -> bool
+    ensures { λ r. ⌜ r ≡ white b ⌝ }
+{
+    if b == b' ' {
+        return true;
+    }
+    if b == b'\t' {
+        return true;
+    }
+    if b == b'\n' {
+        return true;
+    }
+    if b == b'\r' {
+        return true;
+    }
+    false
+}
+
+pub(crate) fn is_inner(b: u8) -> bool
+    ensures { λ r. ⌜ r ≡ inner b ⌝ }
+{
+    if b <= b' ' {
+        return false;
+    }
+    if b == b'(' {
+        return false;
+    }
+    if b == b')' {
+        return false;
+    }
+    true
+}
+
+// Where the white space at a place ends.
+pub(crate) fn skip_white(text: &[u8], at: usize) -> usize
+    requires { ⌜ at ≤ length (now text) ⌝ }
+    ensures { λ e. ⌜ (drop e (now (text .entry)) ≡ skip (drop at (now (text .entry)))) × (at ≤ e) × (e ≤ length (now (text .entry))) ⌝ }
+{
+    let mut i = at;
+    while is_white(peek(text, i)) {
+        i += 1;
+    }
+    i
+}
+
+// Where a label or word at a place ends, after 64 bytes at the latest.
+pub(crate) fn letters_end(text: &[u8], at: usize) -> usize
+    requires { ⌜ at ≤ length (now text) ⌝ }
+    ensures { λ e. ⌜ (drop e (now (text .entry)) ≡ past 64 (drop at (now (text .entry)))) × (at ≤ e) × (e ≤ length (now (text .entry))) ⌝ }
+{
+    let mut i = at;
+    let mut left: usize = 64;
+    while 0 < left {
+        if is_inner(peek(text, i)) {
+            i += 1;
+            left -= 1;
+        } else {
+            return i;
+        }
+    }
+    i
+}
