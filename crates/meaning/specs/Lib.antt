@@ -10,4 +10,8 @@ pub mod Told
 pub mod Entries
 pub mod Names
 pub mod Sentences
+pub mod Texts
+pub mod Places
+pub mod QueryTexts
+pub mod QueryTextExamples
 pub mod Examples

@@ -1,0 +1,17 @@
+pub mod After
+pub mod PlaceLaws
+pub mod First
+pub mod Rest
+pub mod Moves
+pub mod Running
+pub mod SoFar
+pub mod Promises
+pub mod Classes
+pub mod WordLaws
+pub mod TableLaws
+pub mod FillLaws
+pub mod JudgeLaws
+pub mod NameLaws
+pub mod AnswerLaws
+pub mod SaidLaws
+pub mod LegalLaws

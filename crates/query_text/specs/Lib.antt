@@ -1,0 +1,5 @@
+pub mod Machine
+pub mod Tables
+pub mod Filling
+pub mod Room
+pub mod Refused
