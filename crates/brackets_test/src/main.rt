@@ -1,6 +1,8 @@
-// Tries the sentence reader: writes the number of each trial that fails, and at the end `done`.
+// Tries the sentence reader: writes the number of each trial that fails, whether the places are those found by trying, and at
+// the end `done`.
 mod seen;
 mod texts;
+mod tries;
 
 use seen::fails;
 use seen::left;
@@ -11,6 +13,7 @@ use texts::long_label;
 use texts::long_word;
 use texts::many;
 use texts::names;
+use tries::tries;
 
 // Document 01's sentence, and legal texts at the edges of the rules.
 fn legal_texts() {
@@ -190,6 +193,15 @@ fn damages() {
     fails(94, seen::damaged(&mut e, 0));
 }
 
+// The places of cut and damaged texts, compared with places found by trying.
+fn places() {
+    if tries() {
+        io::write_all(1, b"places by trying: right\n");
+    } else {
+        io::write_all(1, b"places by trying: WRONG\n");
+    }
+}
+
 fn main() {
     legal_texts();
     white_texts();
@@ -204,5 +216,6 @@ fn main() {
     columns();
     rests();
     damages();
+    places();
     io::write_all(1, b"done\n");
 }

@@ -7,7 +7,7 @@ pub(crate) fn part(s: &[u8], n: usize) -> &[u8] {
 }
 
 // Adds the bytes of `more` from a place on, as far as there is room, and answers the place behind them.
-fn add(out: &mut [u8], at: usize, more: &[u8]) -> usize {
+pub(crate) fn add(out: &mut [u8], at: usize, more: &[u8]) -> usize {
     let mut i: usize = 0;
     let mut k = at;
     while i < more.len() {
@@ -22,7 +22,7 @@ fn add(out: &mut [u8], at: usize, more: &[u8]) -> usize {
 }
 
 // The same, n times.
-fn add_times(out: &mut [u8], at: usize, more: &[u8], n: usize) -> usize {
+pub(crate) fn add_times(out: &mut [u8], at: usize, more: &[u8], n: usize) -> usize {
     let mut i: usize = 0;
     let mut k = at;
     while i < n {
