@@ -3,7 +3,7 @@ ghost use Prim.Native.Nat.{_+_, _≤_, _<_};
 ghost use lib.ListN.{length};
 
 // The number that document 01 gives a column of 1 to 1,024 rows: 0, 2 or 3.
-pub fn number(post: &[u16]) -> u64
+pub(crate) fn number(post: &[u16]) -> u64
     requires { ⌜ 0 < length (now post) ⌝ }
 {
     if post.len() != rows(post[0]) + 1 {
@@ -85,7 +85,7 @@ fn second(post: &[u16], b: usize, c: usize) -> bool
 }
 
 // An axis by its code.
-pub fn holds(post: &[u16], code: u8, p: usize, q: usize) -> bool
+pub(crate) fn holds(post: &[u16], code: u8, p: usize, q: usize) -> bool
     requires { ⌜ (p < length (now post)) × (q < length (now post)) ⌝ }
 {
     match code {
@@ -145,7 +145,7 @@ fn next(post: &[u16], p: usize, q: usize) -> bool
 }
 
 // Whether the levels are the numbers of ancestors.
-pub fn levels_agree(post: &[u16], levels: &[u16]) -> bool
+pub(crate) fn levels_agree(post: &[u16], levels: &[u16]) -> bool
     requires { ⌜ length (now post) ≤ length (now levels) ⌝ }
 {
     let mut r: usize = 0;
@@ -172,7 +172,7 @@ fn level(post: &[u16], r: usize) -> u64
     above
 }
 
-pub fn sum(a: &[u16]) -> u64 {
+pub(crate) fn sum(a: &[u16]) -> u64 {
     let mut s: u64 = 0;
     let mut i: usize = 0;
     while i < a.len() {
