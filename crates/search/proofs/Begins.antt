@@ -2,21 +2,21 @@
 use mathlib.Core.Path.{_≡_, refl, sym, ap, _∙_}
 use mathlib.Core.Bool.{Bool, true, false}
 use mathlib.Core.List.{List, [], _∷_, _++_}
-use Prim.Native.Nat.{ℕ, zero, suc, _+_, _≤_, _<_}
+use Prim.Native.Nat.{ℕ, suc, _+_, _≤_, _<_}
 use native.Mathlib.Omega.{arith}
-use lib.Dec.{eqb, ltb}
-use lib.ListN.{length, getD, take, drop, drop-of-length-le, length-take}
-use lib.Seq.{take-suc, drop-cons, take-all}
+use lib.Dec.{ltb}
+use lib.ListN.{length, getD, take, drop, drop-of-length-le}
+use lib.Seq.{take-suc, drop-cons}
 use borrow.Author.Tests.{eq-eqb, ne-eqb, ltb-false}
 use Rattle.meaning.specs.Names.{pick}
 use Rattle.meaning.specs.Texts.{pick as choose, Place, legal, bad}
 use Rattle.meaning.specs.Places.{place}
-use Rattle.meaning.specs.QueryTexts.{query, Said, said, names, closed, queryOf, outside, twice, unused, answerOf, answerAt, answer, readingOf, reading}
+use Rattle.meaning.specs.QueryTexts.{query, said, names, closed, queryOf, outside, twice, unused, answerOf, answerAt, answer, readingOf, reading}
 use Rattle.meaning.specs.declared.Refusal.{Refusal}
 use Rattle.meaning.specs.declared.Refusal.the-variants.{Counts, Variables, HeadVariable, ShortBuffer}
 use Rattle.meaning.specs.declared.QueryTextAnswer.{QueryTextAnswer}
 use Rattle.meaning.specs.declared.QueryTextAnswer.the-variants.{Read, Refused}
-use Rattle.search.specs.Run.{query-text, behind}
+use Rattle.meaning.specs.Run.{query-text, behind}
 
 -- no full stop up to place i: the query text goes on there
 pub record Goes (s : List ℕ) (i : ℕ) : Type 0 where

@@ -1,5 +1,5 @@
 -- Decimal digits: one more, and how many. Assumes nothing.
-use mathlib.Core.Path.{_≡_, refl, sym, ap, _∙_}
+use mathlib.Core.Path.{_≡_, refl, ap}
 use mathlib.Core.Bool.{Bool, true, false}
 use mathlib.Core.List.{List, [], _∷_, _++_}
 use Prim.Native.Nat.{ℕ, zero, suc, _+_, _*_, _/_, _%_, _≤_, _<_}
@@ -8,7 +8,7 @@ use lib.Dec.{ltb}
 use lib.ListN.{length, length-append}
 use borrow.Author.Tests.{lt-ltb, le-ltb, ltb-true, ltb-false}
 use Rattle.meaning.specs.Names.{pick}
-use Rattle.search.specs.Run.{digits, decimal}
+use Rattle.meaning.specs.Run.{digits, decimal}
 
 -- 1. Digits: how many are allowed does not matter, if they are enough.
 digits-any : (f g n : ℕ) → n < f → n < g → digits f n ≡ digits g n

@@ -6,14 +6,14 @@ use Prim.Native.Nat.{ℕ, zero, suc, _+_, _-_, _*_, _/_, _≤_, _<_}
 use native.Mathlib.Omega.{arith}
 use native.Mathlib.Nat.{mul-le-mul-right, div-mul-le-self, not-suc-le-zero, le-of-suc-le-suc}
 use lib.Dec.{ltb, leb, eqb}
-use lib.ListN.{length, getD, take, drop, replicate, length-replicate, length-append}
-use lib.Seq.{sets, sets-eq, take-append-seam, drop-append-seam, take-at, drop-at}
-use borrow.Author.Tests.{eqb-false, eqb-true}
-use Rattle.meaning.specs.Tests.{_&_, non}
+use lib.ListN.{length, take, drop}
+use lib.Seq.{sets-eq, take-at, drop-at}
+use borrow.Author.Tests.{eqb-false}
+use Rattle.meaning.specs.Tests.{_&_}
 use Rattle.meaning.specs.Names.{pick}
 use Rattle.meaning.specs.Query.{Question, Problem, problem, asked}
-use Rattle.meaning.specs.Answers.{answers, Answer}
-use Rattle.meaning.specs.Listing.{pruning, room, Outcome, outcome, tupleAt}
+use Rattle.meaning.specs.Answers.{answers}
+use Rattle.meaning.specs.Listing.{pruning, room, Outcome, tupleAt}
 use Rattle.meaning.specs.Entries.{Ground, _when_, Verdict, fine, refuse, lowest, at-front, unless, tableGrounds, queryGrounds, listGrounds, needed, listOutcome, listSays, listAnswer, joined, listLeavesFound}
 use Rattle.meaning.specs.declared.Refusal.{Refusal}
 use Rattle.meaning.specs.declared.Refusal.the-variants.{EmptyHead, ShortBuffer}
@@ -28,16 +28,16 @@ use Rattle.theory.specs.Tuples.{answer-length}
 use Rattle.theory.specs.Whole.{lowest-both, accepted-table, accepted-query, accepted-fit}
 use Rattle.answers.proofs.Searches.{head-length}
 use Rattle.meaning.specs.Names.{tooMany}
-use Rattle.meaning.specs.Sentences.{blank, Reading, found, wrong-at, large-at, IsReading, treeOf, size, sentenceSays, sentenceAnswer, postsOf, labelsOf, sentenceLeaves, sentenceRest, SentenceRead}
+use Rattle.meaning.specs.Sentences.{blank, Reading, found, wrong-at, large-at, treeOf, size, sentenceSays, sentenceAnswer, postsOf, labelsOf, sentenceLeaves, SentenceRead}
 use Rattle.meaning.specs.declared.Refusal.the-variants.{Counts}
 use Rattle.meaning.specs.declared.SentenceAnswer.{SentenceAnswer}
 use Rattle.meaning.specs.declared.SentenceAnswer.the-variants.{Read as SRead, Refused as SRefused}
 use Rattle.brackets.specs.Reader.{readingOf}
 use Rattle.brackets.specs.Whole.{reading-right}
-use Rattle.brackets.specs.Table.{posts-length, labels-length, Tabled, read-table}
-use Rattle.brackets.specs.Rest.{Behind, read-behind}
-use Rattle.search.specs.Run.{tuple-lines, ending-line, refusal-line, Step, stops, goes-on, listed, listing, read, step}
+use Rattle.brackets.specs.Table.{posts-length, labels-length, read-table}
+use Rattle.meaning.specs.Run.{tuple-lines, ending-line, refusal-line, Step, stops, goes-on, listed, listing, read, step}
 use Rattle.search.specs.Wrote.{Wrote, chunks}
+use Rattle.search.specs.InARow.{step-shorter}
 use Rattle.search.specs.Steps.{linesOf, stepSays, stepFor, Leaves, Does}
 use Rattle.search.specs.declared.step.SentenceStep.{SentenceStep}
 use Rattle.search.specs.declared.step.SentenceStep.the-variants.{Next, Last}
@@ -269,32 +269,13 @@ not-next : (n end m : ℕ) → Next n end ≡ Last m → ⊥
 unfolding is-next
 not-next n end m e = let z : _≡_ {A = Bool} true false = ap is-next e in absurd (let y : _≡_ {A = ℕ} 0 1 = cc in omega arith)
 
-shorter : (s list : List ℕ) (g : Reading) (rows end : ℕ) → IsReading s g → sentenceAnswer s list g 1024 1024 ≡ SRead rows end → length (drop end s) < length s
-unfolding sentenceRest
-shorter s list g rows end i e =
-    let z : List ℕ = replicate 1024 0 in
-    let l : length z ≡ 1024 = length-replicate {A = ℕ} 1024 0 in
-    read-behind s list z z rows end _ _
-    (record {
-      reading = g;
-      is-reading = i;
-      answered = sym e ∙ (ap (λ (n : ℕ). sentenceAnswer s list g n 1024) (sym l) ∙ ap (λ (n : ℕ). sentenceAnswer s list g (length z) n) (sym l));
-      posts-left = refl;
-      labels-left = refl;
-    })
-    .shorter
-
 pub next-shorter : (k : ℕ) (q : Question) (list s : List ℕ) (a : SentenceStep) (out out′ : List ℕ) (n end : ℕ) → Does k q list s a out out′ → a ≡ Next n end → length (drop end s) < length s
-unfolding stepFor step pick read listed stepSays end-of
-next-shorter k q list s a out out′ n end D h = go (blank s) (sentenceAnswer s list (D .reading) 1024 1024) refl (sym h ∙ D .leaves .answered)
+unfolding stepFor pick stepSays end-of
+next-shorter k q list s a out out′ n end D h = go (blank s) (step k q list s (D .reading)) refl (sym h ∙ D .leaves .answered)
   where
-    go : (b : Bool) (A : SentenceAnswer) → sentenceAnswer s list (D .reading) 1024 1024 ≡ A → Next n end ≡ stepSays (pick b (stops []) (read k q list (D .reading) A)) → length (drop end s) < length s
-    go true A e i = absurd (not-next _ _ _ i)
-    go false (SRefused r) e i = absurd (not-next _ _ _ i)
-    go false (SRead rows end′) e i = on (listing (postsOf (D .reading)) (labelsOf list (D .reading)) q) i
-      where
-        on : (A : ListAnswer) → Next n end ≡ stepSays (listed k end′ (answers (problem (postsOf (D .reading)) (labelsOf list (D .reading)) q)) A) → length (drop end s) < length s
-        on (Refused r) j = absurd (not-next _ _ _ j)
-        on (Listed w m u) j =
-            let d : end ≡ end′ = ap end-of j in
-            subst (λ (x : ℕ). length (drop x s) < length s) (sym d) (shorter s list (D .reading) rows end′ (D .is-reading) e)
+    go : (b : Bool) (o : Step) → step k q list s (D .reading) ≡ o → Next n end ≡ stepSays (pick b (stops []) o) → length (drop end s) < length s
+    go true o e i = absurd (not-next _ _ _ i)
+    go false (stops lines) e i = absurd (not-next _ _ _ i)
+    go false (goes-on lines end′) e i =
+        let d : end ≡ end′ = ap end-of i in
+        subst (λ (x : ℕ). length (drop x s) < length s) (sym d) (step-shorter k q list s (D .reading) lines end′ (D .is-reading) e)

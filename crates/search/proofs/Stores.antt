@@ -11,7 +11,7 @@ use Rattle.meaning.specs.Axes.{bytes}
 use Rattle.meaning.specs.Told.{number, place}
 use Rattle.meaning.specs.declared.Refusal.{Refusal}
 use Rattle.meaning.specs.declared.Ending.{Ending}
-use Rattle.search.specs.Run.{decimal, spaced, line, tuple-lines, word, ending-line, refusal-line}
+use Rattle.meaning.specs.Run.{decimal, spaced, line, tuple-lines, word, ending-line, refusal-line}
 use Rattle.search.specs.Wrote.{Wrote, rows-spaced, chunks}
 
 -- 1. One part behind another.

@@ -1,3 +1,3 @@
-pub mod Run
 pub mod Wrote
 pub mod Steps
+pub mod InARow

@@ -7,7 +7,7 @@ use Rattle.meaning.specs.Names.{pick}
 use Rattle.meaning.specs.Query.{Question}
 use Rattle.meaning.specs.Entries.{at-front}
 use Rattle.meaning.specs.Sentences.{blank, Reading, IsReading}
-use Rattle.search.specs.Run.{Step, stops, goes-on, step}
+use Rattle.meaning.specs.Run.{Step, stops, goes-on, step}
 use Rattle.search.specs.declared.step.SentenceStep.{SentenceStep}
 use Rattle.search.specs.declared.step.SentenceStep.the-variants.{Next, Last}
 

@@ -4,7 +4,7 @@ use mathlib.Core.List.{List, [], _∷_, _++_}
 use Prim.Native.Nat.{ℕ, zero, suc, _+_, _≤_}
 use lib.ListN.{length, take, drop}
 use lib.Seq.{sets}
-use Rattle.search.specs.Run.{decimal}
+use Rattle.meaning.specs.Run.{decimal}
 
 -- the new bytes stand from place `at` on, at most `most` of them, and the next place is behind them
 pub record Wrote (before : List ℕ) (at most : ℕ) (new after : List ℕ) (next : ℕ) : Type 0 where

@@ -6,7 +6,7 @@ ghost use mathlib.Core.List.{List, [], _∷_, _++_, map};
 ghost use Prim.Native.Nat.{ℕ, _+_, _*_, _≤_, _<_};
 ghost use lib.ListN.{length, take, drop};
 ghost use Rattle.meaning.specs.Told.{number, place};
-ghost use Rattle.search.specs.Run.{decimal, spaced, line, tuple-lines, word, ending-line, refusal-line};
+ghost use Rattle.meaning.specs.Run.{decimal, spaced, line, tuple-lines, word, ending-line, refusal-line};
 ghost use Rattle.search.specs.Wrote.{Wrote, rows-spaced, chunks};
 
 fn put_byte(out: &mut [u8], at: usize, b: u8) -> usize

@@ -11,7 +11,7 @@ use meaning::SentenceAnswer;
 ghost use mathlib.Core.Path.{_≡_};
 ghost use Prim.Native.Nat.{_≤_};
 ghost use lib.ListN.{length, take, drop};
-ghost use Rattle.search.specs.Run.{query-text, behind};
+ghost use Rattle.meaning.specs.Run.{query-text, behind};
 
 // Where the query text ends: behind the first full stop, or at the end of the text.
 fn query_end(text: &[u8]) -> usize

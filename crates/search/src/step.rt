@@ -12,7 +12,7 @@ ghost use Prim.Native.Nat.{ℕ, _+_, _*_, _≤_, _<_};
 ghost use lib.ListN.{length};
 ghost use Rattle.meaning.specs.Query.{asked, problem};
 ghost use Rattle.meaning.specs.Answers.{answers};
-ghost use Rattle.search.specs.Run.{tuple-lines, ending-line, listed, listing};
+ghost use Rattle.meaning.specs.Run.{tuple-lines, ending-line, listed, listing};
 ghost use Rattle.meaning.specs.Entries.{at-front};
 ghost use Rattle.search.specs.Wrote.{chunks};
 ghost use Rattle.search.specs.Steps.{Leaves, Does};

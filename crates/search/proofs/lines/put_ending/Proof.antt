@@ -3,7 +3,7 @@ use mathlib.Core.List.{_∷_}
 use native.Mathlib.Omega.{arith}
 use Rattle.meaning.specs.Axes.{bytes}
 use Rattle.meaning.specs.declared.Ending.{Ending}
-use Rattle.search.specs.Run.{word}
+use Rattle.meaning.specs.Run.{word}
 use Rattle.search.proofs.Stores.{wrote-within, wrote-as}
 use borrow.Author.Needs.{needs}
 use Rattle.search.proofs.lines.put_ending.Statement.{statement}

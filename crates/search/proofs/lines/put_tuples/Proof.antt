@@ -2,7 +2,7 @@ use mathlib.Core.Path.{_≡_, subst}
 use Prim.Native.Nat.{ℕ, _+_, _*_, _-_, _≤_}
 use native.Mathlib.Omega.{arith}
 use borrow.Author.Needs.{needs}
-use Rattle.search.specs.Run.{tuple-lines}
+use Rattle.meaning.specs.Run.{tuple-lines}
 use Rattle.search.specs.Wrote.{Wrote, chunks}
 use Rattle.search.proofs.Stores.{wrote-length, tuples-start, tuples-more, one-more}
 use Rattle.search.proofs.lines.put_tuples.Statement.{statement}

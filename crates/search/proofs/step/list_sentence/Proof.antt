@@ -1,4 +1,4 @@
-use Rattle.search.specs.Run.{listing}
+use Rattle.meaning.specs.Run.{listing}
 use mathlib.Core.Path.{_≡_, sym, _∙_}
 use lib.ListN.{length}
 use native.Mathlib.Omega.{arith}

@@ -1,29 +1,28 @@
 -- A whole run of the program, document 01's chapter 'Program and a whole run': from the bytes it reads to the bytes it
 -- prints. Assumes nothing: these are definitions.
 use mathlib.Core.Path.{_≡_}
-use mathlib.Core.Bool.{Bool, true, false}
 use mathlib.Core.List.{List, [], _∷_, _++_, map}
 use Prim.Native.Nat.{ℕ, zero, suc, _+_, _/_, _%_}
 use lib.Dec.{ltb, eqb}
-use lib.ListN.{length, take, drop, replicate}
+use lib.ListN.{take, drop, replicate}
 use Rattle.meaning.specs.Tests.{Is, non}
 use Rattle.meaning.specs.Axes.{bytes}
 use Rattle.meaning.specs.Names.{pick}
 use Rattle.meaning.specs.Query.{Question, asked, problem}
 use Rattle.meaning.specs.Answers.{answers}
 use Rattle.meaning.specs.Told.{number, place}
 use Rattle.meaning.specs.Entries.{listAnswer}
 use Rattle.meaning.specs.Sentences.{blank, Reading, IsReading, sentenceAnswer, postsOf, labelsOf}
 use Rattle.meaning.specs.QueryTexts.{Said, said, names, closed, queryOf, answer}
 use Rattle.meaning.specs.declared.Refusal.{Refusal}
 use Rattle.meaning.specs.declared.Ending.{Ending}
 use Rattle.meaning.specs.declared.Ending.the-variants.{Finished, Full, Spent}
 use Rattle.meaning.specs.declared.ListAnswer.{ListAnswer}
 use Rattle.meaning.specs.declared.ListAnswer.the-variants.{Listed, Refused as ListRefused}
 use Rattle.meaning.specs.declared.QueryTextAnswer.{QueryTextAnswer}
 use Rattle.meaning.specs.declared.QueryTextAnswer.the-variants.{Read as TextRead, Refused as TextRefused}
 use Rattle.meaning.specs.declared.SentenceAnswer.{SentenceAnswer}
 use Rattle.meaning.specs.declared.SentenceAnswer.the-variants.{Read as SentenceRead, Refused as SentenceRefused}
 
 -- 1. Lines.
 
