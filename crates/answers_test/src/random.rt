@@ -186,58 +186,44 @@ fn every_allowance(
     bad
 }
 
-fn less_one(a: u64) -> u64 {
+// The allowances about which a list is tried: C(0) to C(m), S, S + 1, and the largest.
+fn edge(costs: &[u64], all: u64, m: usize, j: usize) -> u64 {
+    if j <= m {
+        return at64(costs, j);
+    }
+    if j == sum(m, 1) {
+        return all;
+    }
+    if j == sum(m, 2) {
+        return plus(all, 1);
+    }
+    18446744073709551615
+}
+
+// Each of them, and one less.
+fn allowance_at(costs: &[u64], all: u64, m: usize, i: usize) -> u64 {
+    let a = edge(costs, all, m, i / 4);
+    if i % 2 == 0 {
+        return a;
+    }
     if a == 0 {
         return 0;
     }
     a - 1
 }
 
-// An allowance that suffices, and one less; with a room, and with room for all and one more.
-fn about(
-    post: &[u16],
-    label: &[u16],
-    q: Query,
-    costs: &[u64],
-    all: u64,
-    tuples: &[u16],
-    m: usize,
-    found: &mut [u16],
-    allowance: u64,
-    room: usize,
-) -> u64 {
-    let less = less_one(allowance);
-    let more = sum(m, 1);
-    let a = listing(
-        post,
-        label,
-        q,
-        costs,
-        all,
-        tuples,
-        m,
-        found,
-        allowance,
-        room,
-    );
-    let b = listing(post, label, q, costs, all, tuples, m, found, less, room);
-    let c = listing(
-        post,
-        label,
-        q,
-        costs,
-        all,
-        tuples,
-        m,
-        found,
-        allowance,
-        more,
-    );
-    let d = listing(post, label, q, costs, all, tuples, m, found, less, more);
-    plus(plus(a, b), plus(c, d))
+// Each with room for j tuples, at most m, and with room for all and one more.
+fn room_at(m: usize, i: usize) -> usize {
+    if i % 4 < 2 && i / 4 < m {
+        return i / 4;
+    }
+    if i % 4 < 2 {
+        return m;
+    }
+    sum(m, 1)
 }
 
-// About each C(j), with room for j.
+// Four lists about each of the m + 4 allowances.
 fn about_each(
     post: &[u16],
     label: &[u16],
@@ -248,35 +234,29 @@ fn about_each(
     m: usize,
     found: &mut [u16],
 ) -> u64 {
-    let n = sum(m, 1);
+    let four = sum(m, 4);
+    let n = sum(sum(four, four), sum(four, four));
     let mut bad: u64 = 0;
     let mut i: usize = 0;
     while i < n {
-        let c = at64(costs, i);
-        let a = about(post, label, q, costs, all, tuples, m, found, c, i);
+        let allowance = allowance_at(costs, all, m, i);
+        let room = room_at(m, i);
+        let a = listing(
+            post,
+            label,
+            q,
+            costs,
+            all,
+            tuples,
+            m,
+            found,
+            allowance,
+            room,
+        );
         bad = plus(bad, a);
         i += 1;
     }
     bad
-}
-
-// About S and S + 1, and with the largest allowance and one less.
-fn about_all(
-    post: &[u16],
-    label: &[u16],
-    q: Query,
-    costs: &[u64],
-    all: u64,
-    tuples: &[u16],
-    m: usize,
-    found: &mut [u16],
-) -> u64 {
-    let more = plus(all, 1);
-    let most: u64 = 18446744073709551615;
-    let a = about(post, label, q, costs, all, tuples, m, found, all, m);
-    let b = about(post, label, q, costs, all, tuples, m, found, more, m);
-    let c = about(post, label, q, costs, all, tuples, m, found, most, m);
-    plus(plus(a, b), c)
 }
 
 // An answer buffer of 86 places holds 28 tuples of 3 rows and 2 places more.
@@ -304,9 +284,7 @@ fn lists_about(
     m: usize,
 ) -> u64 {
     let mut found = [0u16; 200];
-    let a = about_each(post, label, q, costs, all, tuples, m, &mut found);
-    let b = about_all(post, label, q, costs, all, tuples, m, &mut found);
-    plus(a, b)
+    about_each(post, label, q, costs, all, tuples, m, &mut found)
 }
 
 // ---- the order of a list

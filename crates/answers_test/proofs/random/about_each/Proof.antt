@@ -7,22 +7,34 @@ use Rattle.answers_test.proofs.random.about_each.Statement.{statement}
 use Rattle.answers_test.proofs.random.about_each.Tie as tie
 
 abbrev Inv-loop : tie.InvT-loop
-Inv-loop post label q costs all tuples m found₀ n bad₀ i₀ found bad i = (i ≤ n) × (length found ≡ length found₀)
+Inv-loop post label q costs all tuples m found₀ four n bad₀ i₀ found bad i = (i ≤ n) × (length found ≡ length found₀)
 
 abbrev μ-loop : tie.MeasureT-loop
-μ-loop post label q costs all tuples m found₀ n bad₀ i₀ found bad i = n - i
+μ-loop post label q costs all tuples m found₀ four n bad₀ i₀ found bad i = n - i
 
 sum-requires : tie.Need-sum-requires Inv-loop μ-loop
 sum-requires c κs = search needs
 
+sum-requires-2 : tie.Need-sum-requires-2 Inv-loop μ-loop
+sum-requires-2 c κs = search needs
+
+sum-requires-3 : tie.Need-sum-requires-3 Inv-loop μ-loop
+sum-requires-3 c κs = search needs
+
+sum-requires-4 : tie.Need-sum-requires-4 Inv-loop μ-loop
+sum-requires-4 c κs = search needs
+
 loop-holds : tie.Need-loop-holds Inv-loop μ-loop
 loop-holds c = search needs
 
-at64-requires : tie.Need-at64-requires Inv-loop μ-loop
-at64-requires c κs = search needs
+allowance-at-requires : tie.Need-allowance-at-requires Inv-loop μ-loop
+allowance-at-requires c κs = search needs
 
-about-requires : tie.Need-about-requires Inv-loop μ-loop
-about-requires c κs = search needs
+room-at-requires : tie.Need-room-at-requires Inv-loop μ-loop
+room-at-requires c κs = search needs
+
+listing-requires : tie.Need-listing-requires Inv-loop μ-loop
+listing-requires c κs = search needs
 
 plus-requires : tie.Need-plus-requires Inv-loop μ-loop
 plus-requires c κs = search needs
@@ -49,9 +61,13 @@ about-each-spec =
     Inv-loop
     μ-loop
     sum-requires
+    sum-requires-2
+    sum-requires-3
+    sum-requires-4
     loop-holds
-    at64-requires
-    about-requires
+    allowance-at-requires
+    room-at-requires
+    listing-requires
     plus-requires
     add-i
     loop-less
