@@ -73,26 +73,28 @@ fn nouns() -> Query {
     q
 }
 
+fn pairs(allowance: u64, places: usize, no: u64, count: usize, used: u64) -> u64 {
+    lists(nouns(), allowance, places, no, count, used, &[1, 3, 8, 9])
+}
+
 // The document's allowances and rooms.
 pub(crate) fn sentence() -> u64 {
-    let t: [u16; 4] = [1, 3, 8, 9];
-    let a = lists(nouns(), 2, 6, SPENT, 1, 2, &t);
-    let b = lists(nouns(), 3, 4, FULL, 2, 3, &t);
-    let c = lists(nouns(), 5, 6, SPENT, 2, 5, &t);
-    let d = lists(nouns(), 6, 6, FINISHED, 2, 6, &t);
-    let e = lists(nouns(), MOST, 40, FINISHED, 2, 6, &t);
+    let a = pairs(2, 6, SPENT, 1, 2);
+    let b = pairs(3, 4, FULL, 2, 3);
+    let c = pairs(5, 6, SPENT, 2, 5);
+    let d = pairs(6, 6, FINISHED, 2, 6);
+    let e = pairs(MOST, 40, FINISHED, 2, 6);
     plus(plus(plus(a, b), plus(c, d)), e)
 }
 
 // Rooms from buffers of any length: 0 and 1 places hold no pair, 2 and 3 one, 4 and 5 both. A list that just fits is full.
 pub(crate) fn rooms() -> u64 {
-    let t: [u16; 4] = [1, 3, 8, 9];
-    let a = lists(nouns(), 0, 0, FULL, 0, 0, &t);
-    let b = lists(nouns(), MOST, 1, FULL, 0, 0, &t);
-    let c = lists(nouns(), 0, 2, FULL, 1, 0, &t);
-    let d = lists(nouns(), MOST, 3, FULL, 1, 0, &t);
-    let e = lists(nouns(), MOST, 4, FULL, 2, 3, &t);
-    let f = lists(nouns(), 2, 5, SPENT, 1, 2, &t);
+    let a = pairs(0, 0, FULL, 0, 0);
+    let b = pairs(MOST, 1, FULL, 0, 0);
+    let c = pairs(0, 2, FULL, 1, 0);
+    let d = pairs(MOST, 3, FULL, 1, 0);
+    let e = pairs(MOST, 4, FULL, 2, 3);
+    let f = pairs(2, 5, SPENT, 1, 2);
     plus(plus(plus(a, b), plus(c, d)), plus(e, f))
 }
 
@@ -106,84 +108,132 @@ fn following() -> Query {
     q
 }
 
+fn followers(allowance: u64, places: usize, no: u64, count: usize, used: u64) -> u64 {
+    lists(
+        following(),
+        allowance,
+        places,
+        no,
+        count,
+        used,
+        &[5, 7, 9, 8, 6, 4],
+    )
+}
+
 pub(crate) fn post_order() -> u64 {
-    let t: [u16; 6] = [5, 7, 9, 8, 6, 4];
-    let a = lists(following(), MOST, 7, FINISHED, 6, 18, &t);
-    let b = lists(following(), 18, 7, FINISHED, 6, 18, &t);
-    let c = lists(following(), 17, 7, SPENT, 6, 17, &t);
-    let d = lists(following(), 17, 6, FULL, 6, 15, &t);
-    let e = lists(following(), 14, 6, SPENT, 5, 14, &t);
-    let f = lists(following(), 4, 6, SPENT, 0, 4, &t);
+    let a = followers(MOST, 7, FINISHED, 6, 18);
+    let b = followers(18, 7, FINISHED, 6, 18);
+    let c = followers(17, 7, SPENT, 6, 17);
+    let d = followers(17, 6, FULL, 6, 15);
+    let e = followers(14, 6, SPENT, 5, 14);
+    let f = followers(4, 6, SPENT, 0, 4);
     plus(plus(plus(a, b), plus(c, d)), plus(e, f))
 }
 
 // Child(y,x). The first pruning strikes row 0 from x and the five leaves from y: 6. After an answer x is held to later rows,
 // and y loses each row with no child among them: after 1, 4, 2, 3, 5, 6, 7, 8, 9 that is 5, 6, 6, 7, 7, 8, 8, 9 and 10.
+fn children() -> Query {
+    head_one(two(0, 1, 0), 0)
+}
+
+fn by_levels(allowance: u64, places: usize, no: u64, count: usize, used: u64) -> u64 {
+    lists(
+        children(),
+        allowance,
+        places,
+        no,
+        count,
+        used,
+        &[1, 4, 2, 3, 5, 6, 7, 8, 9],
+    )
+}
+
 pub(crate) fn by_level() -> u64 {
-    let t: [u16; 9] = [1, 4, 2, 3, 5, 6, 7, 8, 9];
-    let q = head_one(two(0, 1, 0), 0);
-    let a = lists(q, MOST, 10, FINISHED, 9, 72, &t);
-    let b = lists(q, 71, 10, SPENT, 9, 71, &t);
-    let c = lists(q, 62, 9, FULL, 9, 62, &t);
-    let d = lists(q, 17, 10, SPENT, 3, 17, &t);
-    let e = lists(q, 16, 10, SPENT, 2, 16, &t);
+    let a = by_levels(MOST, 10, FINISHED, 9, 72);
+    let b = by_levels(71, 10, SPENT, 9, 71);
+    let c = by_levels(62, 9, FULL, 9, 62);
+    let d = by_levels(17, 10, SPENT, 3, 17);
+    let e = by_levels(16, 10, SPENT, 2, 16);
     plus(plus(plus(a, b), plus(c, d)), e)
 }
 
 // Child(x,x) strikes all ten rows and has no answer. Child*(x,x) strikes none: every row.
 pub(crate) fn itself() -> u64 {
-    let t: [u16; 10] = [0, 1, 2, 3, 4, 5, 6, 7, 8, 9];
     let none = alike(1, 1, 0, 1, axis(0, 0, 0));
     let all = alike(1, 1, 0, 1, axis(2, 0, 0));
-    let a = lists(none, MOST, 11, FINISHED, 0, 10, &t);
-    let b = lists(none, 9, 11, SPENT, 0, 9, &t);
-    let c = lists(all, 0, 11, FINISHED, 10, 0, &t);
-    let d = lists(all, 0, 10, FULL, 10, 0, &t);
+    let a = every_row(none, MOST, 11, FINISHED, 0, 10);
+    let b = every_row(none, 9, 11, SPENT, 0, 9);
+    let c = every_row(all, 0, 11, FINISHED, 10, 0);
+    let d = every_row(all, 0, 10, FULL, 10, 0);
     plus(
         plus(a, b),
         plus(plus(c, d), plus(says(none, false), says(all, true))),
     )
 }
 
+fn every_row(q: Query, allowance: u64, places: usize, no: u64, count: usize, used: u64) -> u64 {
+    lists(
+        q,
+        allowance,
+        places,
+        no,
+        count,
+        used,
+        &[0, 1, 2, 3, 4, 5, 6, 7, 8, 9],
+    )
+}
+
 // A variable with no condition may be any row.
 pub(crate) fn any_row() -> u64 {
-    let t: [u16; 10] = [0, 1, 2, 3, 4, 5, 6, 7, 8, 9];
-    let a = lists(head_one(free(3), 1), 0, 11, FINISHED, 10, 0, &t);
+    let a = every_row(head_one(free(3), 1), 0, 11, FINISHED, 10, 0);
     plus(a, says(free(3), true))
 }
 
 pub(crate) fn yes_or_no() -> u64 {
     let a = says(nouns(), true);
     let b = says(following(), true);
-    let c = says(two(0, 1, 0), true);
+    let c = says(children(), true);
     let mut q = nouns();
     q.labels[1] = carries(1, 7);
     plus(plus(plus(a, b), c), says(q, false))
 }
 
 // The tuple need not be an answer.
-fn after_pairs() -> u64 {
-    let a = finds(nouns(), &[0, 0], &[1, 3]);
-    let b = finds(nouns(), &[1, 2], &[1, 3]);
-    let c = finds(nouns(), &[1, 3], &[8, 9]);
-    let d = finds(nouns(), &[5, 0], &[8, 9]);
-    let e = finds(nouns(), &[8, 9], &[]);
-    let f = finds(nouns(), &[9, 9], &[]);
-    plus(plus(plus(a, b), plus(c, d)), plus(e, f))
+fn after_pair(tuple: &[u16], next: &[u16]) -> u64 {
+    finds(nouns(), tuple, next)
 }
 
-// Row 2 is the first in post-order, row 0 the last; by level row 0 is the first and row 9 the last.
-fn after_rows() -> u64 {
-    let q = head_one(two(0, 1, 0), 0);
+fn after_pairs() -> u64 {
+    let a = after_pair(&[0, 0], &[1, 3]);
+    let b = after_pair(&[1, 2], &[1, 3]);
+    let c = after_pair(&[1, 3], &[8, 9]);
+    plus(plus(a, b), c)
+}
+
+fn after_last_pairs() -> u64 {
+    let d = after_pair(&[5, 0], &[8, 9]);
+    let e = after_pair(&[8, 9], &[]);
+    let f = after_pair(&[9, 9], &[]);
+    plus(plus(d, e), f)
+}
+
+// Row 2 is the first in post-order, row 0 the last.
+fn after_in_post_order() -> u64 {
     let a = finds(following(), &[2], &[5]);
     let b = finds(following(), &[9], &[8]);
     let c = finds(following(), &[0], &[]);
-    let d = finds(q, &[0], &[1]);
-    let e = finds(q, &[4], &[2]);
-    let f = finds(q, &[9], &[]);
-    plus(plus(plus(a, b), plus(c, d)), plus(e, f))
+    plus(plus(a, b), c)
+}
+
+// By level row 0 is the first and row 9 the last.
+fn after_by_level() -> u64 {
+    let d = finds(children(), &[0], &[1]);
+    let e = finds(children(), &[4], &[2]);
+    let f = finds(children(), &[9], &[]);
+    plus(plus(d, e), f)
 }
 
 pub(crate) fn search() -> u64 {
-    plus(after_pairs(), after_rows())
+    let pairs = plus(after_pairs(), after_last_pairs());
+    plus(pairs, plus(after_in_post_order(), after_by_level()))
 }

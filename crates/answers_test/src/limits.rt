@@ -179,14 +179,18 @@ fn with_axis(code: u8, first: u8, second: u8) -> Query {
     alike(2, 1, 0, 1, axis(code, first, second))
 }
 
+fn axis_refused(entry: u8, code: u8, first: u8, second: u8) -> u64 {
+    one_refused(entry, with_axis(code, first, second), 5)
+}
+
 // Refusal 5: codes and variables of axis conditions.
 pub(crate) fn axis_names(entry: u8) -> u64 {
     let a = one_accepted(entry, with_axis(6, 0, 1), 2);
-    let b = one_refused(entry, with_axis(7, 0, 1), 5);
-    let c = one_refused(entry, with_axis(255, 0, 1), 5);
+    let b = axis_refused(entry, 7, 0, 1);
+    let c = axis_refused(entry, 255, 0, 1);
     let d = one_accepted(entry, with_axis(2, 1, 1), 2);
-    let e = one_refused(entry, with_axis(2, 2, 1), 5);
-    let f = one_refused(entry, with_axis(2, 1, 2), 5);
+    let e = axis_refused(entry, 2, 2, 1);
+    let f = axis_refused(entry, 2, 1, 2);
     plus(plus(plus(a, b), plus(c, d)), plus(e, f))
 }
 
@@ -213,14 +217,22 @@ fn both(a: u8, b: u8) -> Query {
     q
 }
 
+fn of_two_sets(entry: u8, a: u8, b: u8) -> u64 {
+    one_refused(entry, both(a, b), 6)
+}
+
+fn of_one_set(entry: u8, a: u8, b: u8) -> u64 {
+    one_accepted(entry, both(a, b), 2)
+}
+
 // Refusal 6: axes of two sets; those of one set are fine.
 pub(crate) fn mixed(entry: u8) -> u64 {
-    let a = one_refused(entry, both(1, 6), 6);
-    let b = one_refused(entry, both(0, 2), 6);
-    let c = one_refused(entry, both(6, 4), 6);
-    let d = one_accepted(entry, both(1, 2), 2);
-    let e = one_accepted(entry, both(6, 6), 2);
-    let f = one_accepted(entry, both(0, 5), 2);
+    let a = of_two_sets(entry, 1, 6);
+    let b = of_two_sets(entry, 0, 2);
+    let c = of_two_sets(entry, 6, 4);
+    let d = of_one_set(entry, 1, 2);
+    let e = of_one_set(entry, 6, 6);
+    let f = of_one_set(entry, 0, 5);
     plus(plus(plus(a, b), plus(c, d)), plus(e, f))
 }
 
@@ -334,28 +346,46 @@ fn pair(code: u8) -> Query {
     alike(2, 2, 0, 1, axis(code, 0, 1))
 }
 
-// Refusal 8: tuples of another length, and rows at and past 3.
-pub(crate) fn tuples() -> u64 {
+// Refusal 8: tuples of another length.
+fn other_lengths() -> u64 {
     let a = search_refused(pair(1), &[], 2, 2, 8);
     let b = search_refused(pair(1), &[0], 2, 2, 8);
     let c = search_refused(pair(1), &[0, 0, 0], 2, 2, 8);
+    plus(plus(a, b), c)
+}
+
+// Refusal 8: rows at and past 3.
+fn other_rows() -> u64 {
     let d = search_refused(pair(1), &[3, 0], 2, 2, 8);
     let e = search_refused(pair(1), &[0, 65535], 2, 2, 8);
     let f = search_accepted(pair(1), &[0, 2], 2, 2, 100);
     let g = search_accepted(pair(1), &[2, 2], 2, 2, 101);
-    plus(plus(plus(a, b), plus(c, d)), plus(plus(e, f), g))
+    plus(plus(d, e), plus(f, g))
 }
 
-// Refusal 9: an answer buffer of less than two places, also where nothing is found. 8 comes before it, and 7 before 8.
-pub(crate) fn places() -> u64 {
+pub(crate) fn tuples() -> u64 {
+    plus(other_lengths(), other_rows())
+}
+
+// Refusal 9: an answer buffer of less than two places, also where nothing is found.
+fn short_places() -> u64 {
     let a = search_refused(pair(1), &[0, 0], 2, 1, 9);
     let b = search_refused(pair(6), &[0, 0], 2, 1, 9);
     let c = search_refused(pair(6), &[0, 0], 2, 0, 9);
     let d = search_accepted(pair(6), &[0, 0], 2, 2, 101);
+    plus(plus(a, b), plus(c, d))
+}
+
+// 8 comes before 9, and 7 before 8.
+fn before_places() -> u64 {
     let e = search_refused(pair(1), &[0, 0], 1, 2, 9);
     let f = search_refused(pair(1), &[0, 3], 1, 1, 8);
     let g = search_refused(free(2), &[0], 1, 1, 7);
-    plus(plus(plus(a, b), plus(c, d)), plus(plus(e, f), g))
+    plus(plus(e, f), g)
+}
+
+pub(crate) fn places() -> u64 {
+    plus(short_places(), before_places())
 }
 
 // A listing takes any answer buffer: with fewer places than one tuple needs it is full at once, and the words are zero.
