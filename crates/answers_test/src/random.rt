@@ -431,7 +431,8 @@ fn case_of(first: u64, set: u8, i: usize) -> u64 {
     plus(plus(k, plus(k, k)), plus(set as u64, 2))
 }
 
-// A telling list has two answers, so that their order is seen, and a cost. One case in thirty should be so.
+// A telling list has two answers, so that their order is seen, and a cost (for a search two answers are enough). A few of
+// the hundreds of cases in a group must be so.
 const TELLING: u64 = 20;
 
 // The order of set 1 is that of the row numbers; in the other sets some lists must show another. One would do, three are
