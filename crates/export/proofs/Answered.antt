@@ -20,32 +20,36 @@ query-told Q R a w e h d = d ∙ ap (λ (x : QueryAnswer). toldWords (toldQuery 
 module _ (t l : List ℕ) (Q R : Question) (e : Q ≡ R) (s : List ℕ) (w s′ : List ℕ) where
   pub prune-told : (a : PruneAnswer) → (a ≡ pruneAnswer t l Q s) × (s′ ≡ pruneLeaves t l Q s) → w ≡ toldWords (toldPrune a) →
       (w ≡ toldWords (toldPrune (pruneAnswer t l R s))) × (s′ ≡ pruneLeaves t l R s)
-  prune-told a h d =
-      (d ∙ ap (λ (x : PruneAnswer). toldWords (toldPrune x)) (h .0 ∙ ap (λ (x : Question). pruneAnswer t l x s) e),
-      h .1 ∙ ap (λ (x : Question). pruneLeaves t l x s) e)
+  prune-told a h d = (
+    d ∙ ap (λ (x : PruneAnswer). toldWords (toldPrune x)) (h .0 ∙ ap (λ (x : Question). pruneAnswer t l x s) e),
+    h .1 ∙ ap (λ (x : Question). pruneLeaves t l x s) e,
+  )
 
   pub yes-no-told : (a : YesNoAnswer) → (a ≡ yesNoAnswer t l Q s) × (s′ ≡ yesNoLeaves t l Q s) → w ≡ toldWords (toldYesNo a) →
       (w ≡ toldWords (toldYesNo (yesNoAnswer t l R s))) × (s′ ≡ yesNoLeaves t l R s)
-  yes-no-told a h d =
-      (d ∙ ap (λ (x : YesNoAnswer). toldWords (toldYesNo x)) (h .0 ∙ ap (λ (x : Question). yesNoAnswer t l x s) e),
-      h .1 ∙ ap (λ (x : Question). yesNoLeaves t l x s) e)
+  yes-no-told a h d = (
+    d ∙ ap (λ (x : YesNoAnswer). toldWords (toldYesNo x)) (h .0 ∙ ap (λ (x : Question). yesNoAnswer t l x s) e),
+    h .1 ∙ ap (λ (x : Question). yesNoLeaves t l x s) e,
+  )
 
   module _ (f f′ : List ℕ) where
     pub search-told : (u : List ℕ) (a : SearchAnswer) →
         (a ≡ searchAnswer t l Q u s f) × (s′ ≡ searchLeavesSets t l Q u s f) × (f′ ≡ searchLeavesFound t l Q u s f) → w ≡ toldWords (toldSearch a) →
         (w ≡ toldWords (toldSearch (searchAnswer t l R u s f))) × (s′ ≡ searchLeavesSets t l R u s f) × (f′ ≡ searchLeavesFound t l R u s f)
-    search-told u a h d =
-        (d ∙ ap (λ (x : SearchAnswer). toldWords (toldSearch x)) (h .0 ∙ ap (λ (x : Question). searchAnswer t l x u s f) e),
-        h .1 ∙ ap (λ (x : Question). searchLeavesSets t l x u s f) e,
-        h .2 ∙ ap (λ (x : Question). searchLeavesFound t l x u s f) e)
+    search-told u a h d = (
+      d ∙ ap (λ (x : SearchAnswer). toldWords (toldSearch x)) (h .0 ∙ ap (λ (x : Question). searchAnswer t l x u s f) e),
+      h .1 ∙ ap (λ (x : Question). searchLeavesSets t l x u s f) e,
+      h .2 ∙ ap (λ (x : Question). searchLeavesFound t l x u s f) e,
+    )
 
     pub list-told : (A : ℕ) (a : ListAnswer) →
         (a ≡ listAnswer t l Q A s f) × (s′ ≡ listLeavesSets t l Q A s f) × (f′ ≡ listLeavesFound t l Q A s f) → w ≡ toldWords (toldList a) →
         (w ≡ toldWords (toldList (listAnswer t l R A s f))) × (s′ ≡ listLeavesSets t l R A s f) × (f′ ≡ listLeavesFound t l R A s f)
-    list-told A a h d =
-        (d ∙ ap (λ (x : ListAnswer). toldWords (toldList x)) (h .0 ∙ ap (λ (x : Question). listAnswer t l x A s f) e),
-        h .1 ∙ ap (λ (x : Question). listLeavesSets t l x A s f) e,
-        h .2 ∙ ap (λ (x : Question). listLeavesFound t l x A s f) e)
+    list-told A a h d = (
+      d ∙ ap (λ (x : ListAnswer). toldWords (toldList x)) (h .0 ∙ ap (λ (x : Question). listAnswer t l x A s f) e),
+      h .1 ∙ ap (λ (x : Question). listLeavesSets t l x A s f) e,
+      h .2 ∙ ap (λ (x : Question). listLeavesFound t l x A s f) e,
+    )
 
 pub sentence-told : (s n p l w p′ l′ : List ℕ) (a : SentenceAnswer) → SentenceRead s n p l a p′ l′ → w ≡ toldWords (toldSentence a) → SentenceTold s n p l w p′ l′
 sentence-told s n p l w p′ l′ a h d = record { answer = a; read = h; words = d }

@@ -34,7 +34,7 @@ pub firsts-tab : {A : Type 0} (d : A) (xs : List A) (f : ℕ → A) (n : ℕ) �
 firsts-tab d xs f n h =
     ext-getD d (firsts d xs n) (tab f 0 n) (firsts-length d xs n ∙ sym (tab-length f 0 n))
     (λ i l. let m : i < n = omega (arith, l, firsts-length d xs n) in
-      firsts-at d xs n i m ∙ (h i m ∙ (ap f (let z : i ≡ 0 + i = omega arith in z) ∙ sym (tab-at f 0 n i d m))))
+    firsts-at d xs n i m ∙ (h i m ∙ (ap f (let z : i ≡ 0 + i = omega arith in z) ∙ sym (tab-at f 0 n i d m))))
 
 pub firsts-list : (xs h : List ℕ) → ((k : ℕ) → k < length h → getD xs k 0 ≡ getD h k 0) → firsts 0 xs (length h) ≡ h
 firsts-list xs h e =
