@@ -107,8 +107,33 @@ fn damage_table(random: &mut Random, post: &mut Vec<u16>, label: &mut Vec<u16>) 
     }
 }
 
+/// How often each way out was seen, so that a test can say that it tried them all.
+#[derive(Default, Debug)]
+struct Seen {
+    /// of all entries, by the number of refusal; 0 is none
+    numbers: [usize; 14],
+    yes: [usize; 2],
+    found: [usize; 2],
+    endings: [usize; 3],
+    /// listings of two tuples or more
+    lists: usize,
+}
+
+fn compare_listing(table: &Table, q: &Lent, allowance: u64, words: usize, places: usize, small: bool) -> [u64; 8] {
+    let (post, label) = (&table.post, &table.label);
+    let context = || format!("post {post:?} label {label:?} query {q:?} allowance {allowance} words {words} places {places}");
+    let (mut mine, mut theirs) = (set_buffer(words), set_buffer(words));
+    let (mut my_tuples, mut their_tuples) = (tuple_buffer(places), tuple_buffer(places));
+    let expected = table.list_answers(q, allowance, &mut mine, &mut my_tuples, small);
+    let got = calls::list_answers(post, label, q, allowance, &mut theirs, &mut their_tuples);
+    assert_eq!(got, expected, "listing: {}", context());
+    assert_eq!(theirs, mine, "listing, sets: {}", context());
+    assert_eq!(their_tuples, my_tuples, "listing, tuples: {}", context());
+    got
+}
+
 /// Calls every entry that takes a table and a query and compares what is told and every buffer.
-fn compare_all(random: &mut Random, table: &Table, q: &Lent, most_room: usize, small: bool) {
+fn compare_all(random: &mut Random, table: &Table, q: &Lent, most_room: usize, small: bool, seen: &mut Seen) {
     let (post, label) = (&table.post, &table.label);
     assert_eq!(calls::check_table(post, label), refused(check_table(post, label)), "{post:?} {label:?}");
     let checked = match check_query(q) {
@@ -127,13 +152,19 @@ fn compare_all(random: &mut Random, table: &Table, q: &Lent, most_room: usize, s
     let context = || format!("post {post:?} label {label:?} query {q:?} words {words}");
 
     let (mut mine, mut theirs) = (set_buffer(words), set_buffer(words));
-    assert_eq!(calls::prune(post, label, q, &mut theirs), table.prune(q, &mut mine), "prune: {}", context());
+    let got = calls::prune(post, label, q, &mut theirs);
+    assert_eq!(got, table.prune(q, &mut mine), "prune: {}", context());
     assert_eq!(theirs, mine, "prune, sets: {}", context());
+    seen.numbers[got[0] as usize] += 1;
 
     let (mut mine, mut theirs) = (set_buffer(words), set_buffer(words));
     let expected = table.yes_or_no(q, &mut mine, small);
-    assert_eq!(calls::yes_or_no(post, label, q, &mut theirs), expected, "yes or no: {}", context());
+    let got = calls::yes_or_no(post, label, q, &mut theirs);
+    assert_eq!(got, expected, "yes or no: {}", context());
     assert_eq!(theirs, mine, "yes or no, sets: {}", context());
+    if got[0] == 0 {
+        seen.yes[got[2] as usize] += 1;
+    }
 
     let k = q.head.len();
     let mut tuple: Vec<u16> = (0..k).map(|_| random.below(post.len().max(1)) as u16).collect();
@@ -153,6 +184,10 @@ fn compare_all(random: &mut Random, table: &Table, q: &Lent, most_room: usize, s
     let got = calls::find_after(post, label, q, &tuple, &mut theirs, &mut their_tuple);
     assert_eq!(got, expected, "search after {tuple:?} into {places}: {}", context());
     assert_eq!((theirs, their_tuple), (mine, my_tuple), "search after {tuple:?}, buffers: {}", context());
+    seen.numbers[got[0] as usize] += 1;
+    if got[0] == 0 {
+        seen.found[got[2] as usize] += 1;
+    }
 
     let room = random.below(most_room + 1);
     let places = room * k.max(1) + random.below(k.max(1));
@@ -162,18 +197,26 @@ fn compare_all(random: &mut Random, table: &Table, q: &Lent, most_room: usize, s
         2 => random.below(30) as u64,
         _ => random.below(1 + post.len() * q.variables.min(16)) as u64,
     };
-    let (mut mine, mut theirs) = (set_buffer(words), set_buffer(words));
-    let (mut my_tuples, mut their_tuples) = (tuple_buffer(places), tuple_buffer(places));
-    let expected = table.list_answers(q, allowance, &mut mine, &mut my_tuples, small);
-    let got = calls::list_answers(post, label, q, allowance, &mut theirs, &mut their_tuples);
-    assert_eq!(got, expected, "listing, allowance {allowance}, {places} places: {}", context());
-    assert_eq!(theirs, mine, "listing, sets: {}", context());
-    assert_eq!(their_tuples, my_tuples, "listing, allowance {allowance}, {places} places, tuples: {}", context());
+    let got = compare_listing(table, q, allowance, words, places, small);
+    seen.numbers[got[0] as usize] += 1;
+    if got[0] == 0 {
+        seen.endings[got[2] as usize] += 1;
+        seen.lists += (got[3] > 1) as usize;
+    }
+}
+
+impl Seen {
+    /// Every refusal that a table and a query can meet, every answer and every ending came so often at least.
+    fn assert_all(&self, often: usize) {
+        let all = [&self.numbers[..10], &self.yes, &self.found, &self.endings, &[self.lists]].concat();
+        assert!(all.iter().all(|&times| times >= often), "{self:?}");
+    }
 }
 
 #[test]
 fn small_inputs_by_trying_every_choice() {
     let mut random = Random(1);
+    let mut seen = Seen::default();
     for _ in 0..30_000 {
         let n = 1 + random.below(7);
         let mut post = random_tree(&mut random, n, 64, 0);
@@ -187,8 +230,9 @@ fn small_inputs_by_trying_every_choice() {
         }
         // trying every choice of many variables would not end
         let small = q.variables <= 4;
-        compare_all(&mut random, &Table::new(post, label), &q, 12, small);
+        compare_all(&mut random, &Table::new(post, label), &q, 12, small, &mut seen);
     }
+    seen.assert_all(100);
 }
 
 #[test]
@@ -225,6 +269,7 @@ fn every_order_of_seven_rows() {
 #[test]
 fn middling_inputs_by_stages() {
     let mut random = Random(2);
+    let mut seen = Seen::default();
     for _ in 0..600 {
         let n = 1 + random.below(150);
         let mut post = random_tree(&mut random, n, 64, 0);
@@ -236,8 +281,9 @@ fn middling_inputs_by_stages() {
         if random.once_in(6) {
             damage_query(&mut random, &mut q);
         }
-        compare_all(&mut random, &Table::new(post, label), &q, 20, false);
+        compare_all(&mut random, &Table::new(post, label), &q, 20, false, &mut seen);
     }
+    seen.assert_all(20);
 }
 
 /// A query with all its places taken, made so that it has an answer: rows are chosen first, conditions that hold for them
@@ -265,14 +311,8 @@ fn full_query(random: &mut Random, table: &Table, set: usize) -> Lent {
             axes.extend([code, x as u8, y as u8]);
         }
     }
-    // mostly conditions of label 0, which most rows carry
-    let mut labels: Vec<u16> = Vec::new();
-    while labels.len() < 64 {
-        let x = random.below(16);
-        if table.label[rows[x]] == 0 || random.once_in(40) {
-            labels.extend([x as u16, table.label[rows[x]]]);
-        }
-    }
+    // each variable twice
+    let labels = (0..32).flat_map(|i| [i % 16, table.label[rows[i as usize % 16]]]).collect();
     let mut head: Vec<u8> = (0..16).collect();
     for i in (1..16).rev() {
         head.swap(i, random.below(i + 1));
@@ -284,37 +324,47 @@ fn full_query(random: &mut Random, table: &Table, set: usize) -> Lent {
 #[test]
 fn full_size_by_stages() {
     let mut random = Random(3);
+    let mut seen = Seen::default();
     let mut answers = 0;
     for round in 0..6 {
         // a chain of 64 rows first, so that there are 64 levels
         let post = random_tree(&mut random, 1024, 64, 64);
-        let label: Vec<u16> = (0..1024).map(|_| if random.once_in(10) { 1 } else { 0 }).collect();
+        // one label for all rows, or two, or so many that few rows can be an answer
+        let kinds = [1, 2, 100][round % 3];
+        let label: Vec<u16> = (0..1024).map(|_| random.below(kinds) as u16).collect();
         let table = Table::new(post, label);
         assert_eq!(table.tree.as_ref().unwrap().level.iter().max(), Some(&63));
         for set in 0..3 {
             let q = full_query(&mut random, &table, set);
             let asked = Asked::new(table.tree.as_ref().unwrap(), &q);
             answers += asked.first().0.is_some() as usize;
-            compare_all(&mut random, &table, &q, 6, false);
+            for (allowance, room) in [(u64::MAX, 20), (random.below(60_000) as u64, 20), (u64::MAX, 1)] {
+                let got = compare_listing(&table, &q, allowance, 256, room * 8 + 7, false);
+                seen.endings[got[2] as usize] += 1;
+                seen.lists += (got[3] > 1) as usize;
+            }
+            compare_all(&mut random, &table, &q, 12, false, &mut seen);
             if round == 0 {
                 let mut wrong = q.clone();
                 wrong.axes.extend([wrong.axes[0], 0, 0]);
-                compare_all(&mut random, &table, &wrong, 6, false);
+                compare_all(&mut random, &table, &wrong, 12, false, &mut seen);
                 let mut wrong = q.clone();
                 wrong.labels.extend([0, 0]);
-                compare_all(&mut random, &table, &wrong, 6, false);
+                compare_all(&mut random, &table, &wrong, 12, false, &mut seen);
                 let mut wrong = q;
                 wrong.head.push(0);
-                compare_all(&mut random, &table, &wrong, 6, false);
+                compare_all(&mut random, &table, &wrong, 12, false, &mut seen);
             }
         }
     }
+    assert!(seen.endings.iter().all(|&times| times >= 5) && seen.lists >= 20, "{seen:?}");
     assert_eq!(answers, 18, "each of these queries is made to have an answer");
 }
 
 #[test]
 fn full_size_shapes() {
     let mut random = Random(4);
+    let mut seen = Seen::default();
     let chain = random_tree(&mut random, 1024, 1024, 1024);
     let mut flat: Vec<u16> = (0..1023).collect();
     flat.insert(0, 1023);
@@ -325,7 +375,7 @@ fn full_size_shapes() {
         for _ in 0..4 {
             let mut q = random_query(&mut random, 3, 2);
             q.head = vec![0];
-            compare_all(&mut random, &table, &q, 40, false);
+            compare_all(&mut random, &table, &q, 40, false, &mut seen);
         }
         let (mut longer, mut label) = (post, label);
         for p in longer.iter_mut() {

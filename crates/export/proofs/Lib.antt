@@ -4,3 +4,4 @@ pub mod Told
 pub mod Gathered
 pub mod Readings
 pub mod Answered
+pub mod Promises

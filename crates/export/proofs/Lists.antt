@@ -81,7 +81,7 @@ head-more hs to o i e l =
     ∙ (front-more (firsts 0 hs i) (getD hs i 0) o i (sym (firsts-length 0 hs i)) l ∙ ap (λ (x : List ℕ). at-front x o) (sym (firsts-more 0 hs i)))
 
 -- label conditions as numbers
-labels-length : (cs : List LabelCondition) → length (labelNumbers cs) ≡ 2 * length cs
+pub labels-length : (cs : List LabelCondition) → length (labelNumbers cs) ≡ 2 * length cs
 unfolding labelNumbers
 labels-length [] = refl
 labels-length (c ∷ cs) = let h = labels-length cs in omega (arith, h)
@@ -108,7 +108,7 @@ labels-more ls to o i e l =
     ∙ ap (λ (x : List ℕ). at-front x o) (sym (ap labelNumbers (firsts-more no-label ls i) ∙ labels-last (firsts no-label ls i) c))))
 
 -- axis conditions as numbers
-axes-length : (cs : List Condition) → length (axisNumbers cs) ≡ 3 * length cs
+pub axes-length : (cs : List Condition) → length (axisNumbers cs) ≡ 3 * length cs
 unfolding axisNumbers
 axes-length [] = refl
 axes-length (c ∷ cs) = let h = axes-length cs in omega (arith, h)
