@@ -128,13 +128,7 @@ pub fn words_needed(query: &Query, rows: usize) -> usize {
 pub fn check_table(post: &[u16], label: &[u16]) -> Result<(), Refusal> {
     let mut told = [0u64; 8];
     unsafe {
-        raw::pouchmeadow_check_table(
-            post.as_ptr(),
-            post.len(),
-            label.as_ptr(),
-            label.len(),
-            told.as_mut_ptr(),
-        );
+        raw::pouchmeadow_check_table(post.as_ptr(), post.len(), label.as_ptr(), label.len(), told.as_mut_ptr());
     }
     unless_refused(&told)
 }
@@ -286,11 +280,7 @@ pub fn list_answers(
         1 => Ending::Full,
         _ => Ending::Spent,
     };
-    Ok(Listing {
-        ending,
-        tuples: told[3] as usize,
-        used: told[4],
-    })
+    Ok(Listing { ending, tuples: told[3] as usize, used: told[4] })
 }
 
 /// Reads a query text. Its names go to the front of `names`, each closed by a line feed.
@@ -350,10 +340,7 @@ pub fn read_sentence<'a>(
         );
     }
     unless_refused(&told)?;
-    Ok(Sentence {
-        rows: told[2] as usize,
-        rest: &text[told[3] as usize..],
-    })
+    Ok(Sentence { rows: told[2] as usize, rest: &text[told[3] as usize..] })
 }
 
 fn unless_refused(told: &[u64; 8]) -> Result<(), Refusal> {

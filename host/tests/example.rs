@@ -56,7 +56,8 @@ fn a_whole_run() {
     assert_eq!(find_after(&post, &label, &query, &[8, 9], &mut sets, &mut found), Ok(false));
 
     let mut found = [7; 5];
-    let list = |allowance, found: &mut [u16], sets: &mut [u64]| list_answers(&post, &label, &query, allowance, sets, found);
+    let list =
+        |allowance, found: &mut [u16], sets: &mut [u64]| list_answers(&post, &label, &query, allowance, sets, found);
     let ended = |ending, tuples, used| Ok(Listing { ending, tuples, used });
     assert_eq!(list(1_000_000, &mut [0; 6], &mut sets), ended(Ending::Finished, 2, 6));
     assert_eq!(list(1_000_000, &mut found, &mut sets), ended(Ending::Full, 2, 3));

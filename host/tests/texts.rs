@@ -177,8 +177,26 @@ fn query_texts_going_on_with_each_byte() {
 fn query_texts_of_random_tokens() {
     let mut random = Random(12);
     let tokens: [&[u8]; 20] = [
-        b"Q", b"(", b")", b",", b"<-", b".", b"x", b"yy1", b"abcdefgh", b"NP", b"Child", b"Child+", b"NextSibling*",
-        b"Following", b" ", b"\n", b"<", b"A123456789012345", b"Chil", b"+",
+        b"Q",
+        b"(",
+        b")",
+        b",",
+        b"<-",
+        b".",
+        b"x",
+        b"yy1",
+        b"abcdefgh",
+        b"NP",
+        b"Child",
+        b"Child+",
+        b"NextSibling*",
+        b"Following",
+        b" ",
+        b"\n",
+        b"<",
+        b"A123456789012345",
+        b"Chil",
+        b"+",
     ];
     for _ in 0..20_000 {
         let mut text = b"Q(x)<-".to_vec();
@@ -424,7 +442,12 @@ fn places_of_sentences_by_reading() {
         (b"(A (B b) c)", 9),
     ];
     for (text, place) in cases {
-        assert_eq!(compare_sentence(text, b"", 9, 9), told(11, place as usize, &[]), "{:?}", String::from_utf8_lossy(text));
+        assert_eq!(
+            compare_sentence(text, b"", 9, 9),
+            told(11, place as usize, &[]),
+            "{:?}",
+            String::from_utf8_lossy(text)
+        );
     }
     assert_eq!(compare_sentence(b"(A (B b)(C c))", b"C\n", 9, 9), told(0, 0, &[3, 14]));
     assert_eq!(compare_sentence(b"(S x)y", b"", 9, 9), told(0, 0, &[1, 5]));

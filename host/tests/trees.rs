@@ -121,7 +121,8 @@ struct Seen {
 
 fn compare_listing(table: &Table, q: &Lent, allowance: u64, words: usize, places: usize, small: bool) -> [u64; 8] {
     let (post, label) = (&table.post, &table.label);
-    let context = || format!("post {post:?} label {label:?} query {q:?} allowance {allowance} words {words} places {places}");
+    let context =
+        || format!("post {post:?} label {label:?} query {q:?} allowance {allowance} words {words} places {places}");
     let (mut mine, mut theirs) = (set_buffer(words), set_buffer(words));
     let (mut my_tuples, mut their_tuples) = (tuple_buffer(places), tuple_buffer(places));
     let expected = table.list_answers(q, allowance, &mut mine, &mut my_tuples, small);

@@ -14,7 +14,8 @@ struct Server {
 
 impl Server {
     fn start() -> Server {
-        let command = std::env::var("POUCHMEADOW_SERVE").expect("run by tests/host.sh, which says how to call the library");
+        let command =
+            std::env::var("POUCHMEADOW_SERVE").expect("run by tests/host.sh, which says how to call the library");
         let mut process = Command::new("sh")
             .args(["-c", &format!("exec {command}")])
             .stdin(Stdio::piped())

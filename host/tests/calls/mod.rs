@@ -15,9 +15,7 @@ fn tells(call: impl FnOnce(*mut u64)) -> [u64; 8] {
 }
 
 pub fn check_table(post: &[u16], label: &[u16]) -> [u64; 8] {
-    tells(|told| unsafe {
-        raw::pouchmeadow_check_table(post.as_ptr(), post.len(), label.as_ptr(), label.len(), told)
-    })
+    tells(|told| unsafe { raw::pouchmeadow_check_table(post.as_ptr(), post.len(), label.as_ptr(), label.len(), told) })
 }
 
 pub fn check_query(q: &Lent) -> [u64; 8] {
