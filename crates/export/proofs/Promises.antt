@@ -12,20 +12,23 @@ use lib.Seq.{ext-getD}
 use borrow.Author.Tests.{ltb-true, ltb-false, lt-ltb, le-ltb, le-leb, eq-eqb}
 use Rattle.meaning.specs.Tests.{_&_, tab}
 use Rattle.meaning.specs.Names.{pick}
-use Rattle.meaning.specs.Query.{Question, isCounted, no-label, no-condition, labelAt, axisAt}
+use Rattle.meaning.specs.QueryTexts.{reading}
+use Rattle.meaning.specs.Query.{Question, asked, isCounted, no-label, no-condition, labelAt, axisAt}
 use Rattle.meaning.specs.Entries.{queryAnswer}
 use Rattle.meaning.specs.Told.{toldSentence}
 use Rattle.meaning.specs.declared.Condition.{Condition}
 use Rattle.meaning.specs.declared.LabelCondition.{LabelCondition}
+use Rattle.meaning.specs.declared.Query.{Query}
 use Rattle.meaning.specs.declared.QueryAnswer.the-variants.{Refused}
 use Rattle.meaning.specs.declared.Refusal.the-variants.{Counts}
 use Rattle.meaning.specs.declared.SentenceAnswer.{SentenceAnswer}
 use Rattle.theory.specs.Tests.{tab-at, tab-length}
-use Rattle.query.proofs.Laws.{says-counts}
+use Rattle.query.proofs.Laws.{says-counts, head-length, labels-length as labels-length-asked, axes-length as axes-length-asked, labels-at}
 use Rattle.brackets.specs.Unique.{one-answer, one-post, one-label}
 use Rattle.export.specs.Lent.{narrowed, lentLabel, lentAxis, isWhole, whole, lent, labelNumbers, axisNumbers}
 use Rattle.export.specs.Words.{toldWords, SentenceTold}
 use Rattle.export.proofs.Lists.{labels-length, axes-length}
+use Rattle.export.proofs.Readings.{Few, few-read}
 
 -- ---- lists that hold no query within the limits
 
@@ -128,6 +131,20 @@ pub lent-again : (v : ℕ) (h : List ℕ) (xs : List LabelCondition) (ys : List 
     lent v h (labelNumbers xs) (axisNumbers ys) ≡ record { variables = v; head = h; labels = xs; axes = ys }
 unfolding lent pick
 lent-again v h xs ys a b c small = rw (whole-back h xs ys a b c, labels-back xs small, axes-back ys)
+
+-- a query within its arrays
+asked-again : (q : Query) → Few q → lent (q .variables) (asked q .head) (labelNumbers (asked q .labels)) (axisNumbers (asked q .axes)) ≡ asked q
+unfolding asked
+asked-again q f =
+    let h = head-length q in
+    let l = labels-length-asked q in
+    let x = axes-length-asked q in
+    lent-again (q .variables) (asked q .head) (asked q .labels) (asked q .axes) (omega (arith, h, f .head-few)) (omega (arith, l, f .labels-few)) (omega (arith, x, f .axes-few))
+    (λ i k. let m = labels-at q i (omega (arith, k, l)) in let s = f .small i in rw m s)
+
+-- what a query text leaves, lent to an entry, asks what the text asks
+pub read-again : (s : List ℕ) (m : ℕ) → (let q = reading s m .query in lent (q .variables) (asked q .head) (labelNumbers (asked q .labels)) (axisNumbers (asked q .axes)) ≡ asked q)
+read-again s m = asked-again (reading s m .query) (few-read s m)
 
 -- ---- any two results that the contract for sentences allows are equal
 
