@@ -248,6 +248,22 @@ fn query_texts_at_the_limits() {
 }
 
 #[test]
+fn very_long_texts() {
+    assert_eq!(compare_query(&sized_query(40, 300, 5_000, 5_000, 900), 70_000), refused(4));
+    let mut text = sized_query(16, 8, 32, 32, 32);
+    text.extend(b" ".repeat(70_000));
+    assert_eq!(compare_query(&text, 70_000)[0], 0);
+    text.push(b'x');
+    assert_eq!(compare_query(&text, 70_000), told(10, text.len() - 1, &[]));
+
+    let blank = b" ".repeat(70_000);
+    assert_eq!(compare_sentence(&blank, b"", 9, 9), told(11, 70_000, &[]));
+    let text = [&blank[..], b"(S x)", &blank].concat();
+    assert_eq!(compare_sentence(&text, &b"x".repeat(70_000), 70_000, 70_000), told(0, 0, &[1, 70_005]));
+    assert_eq!(compare_sentence(&text, &b"\n".repeat(70_000), 9, 9), refused(4));
+}
+
+#[test]
 fn places_of_query_texts_by_reading() {
     let cases: [(&[u8], u64); 18] = [
         (b"", 0),

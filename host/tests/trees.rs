@@ -438,6 +438,30 @@ fn limits_on_both_sides() {
     }
 }
 
+/// Any length is taken: what is far beyond the limits is refused like what is just beyond them.
+#[test]
+fn very_long_lists() {
+    let long = 100_002;
+    let mut random = Random(6);
+    let table = Table::new(vec![0], vec![0]);
+    let query = Lent { variables: 1, head: vec![0], labels: vec![0, 0], axes: vec![2, 0, 0] };
+    for q in [
+        query.clone(),
+        Lent { head: vec![0; long], ..query.clone() },
+        Lent { labels: vec![0; long], ..query.clone() },
+        Lent { axes: vec![0; long], ..query.clone() },
+        Lent { head: vec![0; 256], labels: vec![0; 65_536], axes: vec![0; 3 * 65_536], ..query.clone() },
+    ] {
+        compare_all(&mut random, &table, &q, 3, true, &mut Seen::default());
+    }
+    for (post, label) in [(vec![0; long], vec![0; long]), (vec![0], vec![0; long]), (vec![0; 65_537], vec![0; 65_537])]
+    {
+        compare_all(&mut random, &Table::new(post, label), &query, 3, true, &mut Seen::default());
+    }
+    // buffers far longer than is needed
+    compare_listing(&table, &query, u64::MAX, long, long, true);
+}
+
 /// The examples that document 01 gives on table D.
 #[test]
 fn examples_of_the_document() {

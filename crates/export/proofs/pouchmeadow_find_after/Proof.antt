@@ -23,7 +23,8 @@ returns : tie.Need-returns
 returns c =
     let p = c .before .before .before .before .before in
     let g = p .before .before .before in
-    search-told _ _ _ _ (g .gather .ensures) _ _ _ _ _ _ _ (p .find-after .ensures) (c .of-search .ensures)
+    let a = g .before .before .before .before .before .before .before .before .before .args in
+    search-told (a .post .now) (a .label .now) _ _ (g .gather .ensures) (a .sets .now) _ _ (a .found .now) _ (a .tuple .now) _ (p .find-after .ensures) (c .of-search .ensures)
 
 pub pouchmeadow-find-after-spec : {M : Type 1} → statement M
 pouchmeadow-find-after-spec =

@@ -23,7 +23,8 @@ returns : tie.Need-returns
 returns c =
     let p = c .before .before .before .before .before in
     let g = p .before .before .before in
-    list-told _ _ _ _ (g .gather .ensures) _ _ _ _ _ _ _ (p .list-answers .ensures) (c .of-list .ensures)
+    let a = g .before .before .before .before .before .before .before .before .args in
+    list-told (a .post .now) (a .label .now) _ _ (g .gather .ensures) (a .sets .now) _ _ (a .found .now) _ (a .allowance) _ (p .list-answers .ensures) (c .of-list .ensures)
 
 pub pouchmeadow-list-answers-spec : {M : Type 1} → statement M
 pouchmeadow-list-answers-spec =

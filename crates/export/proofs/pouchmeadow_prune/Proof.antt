@@ -20,7 +20,8 @@ returns : tie.Need-returns
 returns c =
     let p = c .before .before .before in
     let g = p .before .before in
-    prune-told _ _ _ _ (g .gather .ensures) _ _ _ _ (p .prune .ensures) (c .of-prune .ensures)
+    let a = g .before .before .before .before .before .before .before .args in
+    prune-told (a .post .now) (a .label .now) _ _ (g .gather .ensures) (a .sets .now) _ _ _ (p .prune .ensures) (c .of-prune .ensures)
 
 pub pouchmeadow-prune-spec : {M : Type 1} → statement M
 pouchmeadow-prune-spec =

@@ -20,7 +20,8 @@ returns : tie.Need-returns
 returns c =
     let p = c .before .before .before in
     let g = p .before .before in
-    yes-no-told _ _ _ _ (g .gather .ensures) _ _ _ _ (p .yes-or-no .ensures) (c .of-yes-no .ensures)
+    let a = g .before .before .before .before .before .before .before .args in
+    yes-no-told (a .post .now) (a .label .now) _ _ (g .gather .ensures) (a .sets .now) _ _ _ (p .yes-or-no .ensures) (c .of-yes-no .ensures)
 
 pub pouchmeadow-yes-or-no-spec : {M : Type 1} → statement M
 pouchmeadow-yes-or-no-spec =
