@@ -7,11 +7,13 @@ set -eu
 root=$(cd "$(dirname "$0")" && pwd)
 program=$root/target/bin/search
 if [ ! -x "$program" ] || [ -n "$(find "$root/crates" "$root/crates.txt" -newer "$program" -type f -print -quit)" ]; then
-    (cd "$root" && rt check search) >"$root/build.log" 2>&1 || {
-        cat "$root/build.log" >&2
+    log=$(mktemp)
+    (cd "$root" && rt check search) >"$log" 2>&1 || {
+        cat "$log" >&2
+        rm -f "$log"
         exit 1
     }
-    rm -f "$root/build.log"
+    rm -f "$log"
 fi
 # the kit's loader and C library; where the processor is not x86-64, its emulator too
 kit=${RATTLE_HOME:-$(dirname "$(readlink -f "$(command -v rt)")")/..}
