@@ -1,3 +1,5 @@
+use mathlib.Core.Path.{refl}
+use Rattle.pouchmeadow.specs.Lent.{filled, blank}
 use Rattle.pouchmeadow.proofs.empty.Statement.{statement}
 use Rattle.pouchmeadow.proofs.empty.Tie as tie
 use Rattle.pouchmeadow.proofs.empty.Reads as reads
@@ -5,7 +7,8 @@ use Rattle.pouchmeadow.proofs.empty.Lts as lts
 
 -- src/lib.rt:50:1
 returns : tie.Need-returns
-returns c = ?
+unfolding filled blank
+returns c = refl
 
 pub empty-spec : {M : Type 1} → statement M
 empty-spec = tie.close (tie.spec returns)
