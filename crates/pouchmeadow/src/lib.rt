@@ -13,7 +13,7 @@ ghost use mathlib.Core.List.{[]};
 ghost use Prim.Native.Nat.{ℕ, _≤_, _<_};
 ghost use lib.ListN.{length, getD};
 ghost use Rattle.meaning.specs.Query.{no-condition};
-ghost use Rattle.meaning.specs.Entries.{tableAnswer, queryAnswer, pruneAnswer, pruneLeaves, yesNoAnswer, yesNoLeaves, searchAnswer, searchLeavesSets, searchLeavesFound, listAnswer, listLeavesSets, listLeavesFound};
+ghost use Rattle.pouchmeadow.specs.Promised.{ChecksTable, ChecksQuery, Prunes, SaysYesOrNo, FindsAfter, Lists};
 ghost use Rattle.pouchmeadow.specs.Lent.{lent, gathered, placed, few};
 
 // A tree as its caller holds it: the post numbers and the labels of its rows.
@@ -33,7 +33,7 @@ pub struct Terms {
 
 // Is it a tree? Any two columns.
 pub fn check_table<'a>(tree: TreeView<'a>) -> TableAnswer
-    ensures { λ r. ⌜ r ≡ tableAnswer (now (tree .entry .post)) (now (tree .entry .label)) ⌝ }
+    ensures { λ r. ⌜ ChecksTable (now (tree .entry .post)) (now (tree .entry .label)) r ⌝ }
 {
     table::check_table(tree.post, tree.label)
 }
@@ -103,21 +103,54 @@ fn gather(terms: Terms, axes: &[Condition]) -> Query
 
 // Is the query accepted, and which set does it take?
 pub fn check_query(terms: Terms, axes: &[Condition]) -> QueryAnswer
-    ensures { λ r. ⌜ r ≡ queryAnswer (lent terms (now (axes .entry))) ⌝ }
+    ensures { λ r. ⌜ ChecksQuery (lent terms (now (axes .entry))) r ⌝ }
 {
     let q = gather(terms, axes);
     query::check_query(q)
 }
 
-// Prunes the label sets.
-pub fn prune<'a>(tree: TreeView<'a>, terms: Terms, axes: &[Condition], sets: &mut [u64]) -> PruneAnswer
-    ensures { λ a. ⌜ (a ≡ pruneAnswer (now (tree .entry .post)) (now (tree .entry .label)) (lent terms (now (axes .entry))) (now (sets .entry)))
-        × (now (sets .exit) ≡ pruneLeaves (now (tree .entry .post)) (now (tree .entry .label)) (lent terms (now (axes .entry))) (now (sets .entry))) ⌝ }
+// Prunes the label sets: the sets that are left in the buffer's first words, and how many rows were struck.
+pub fn prune<'a>(
+    tree: TreeView<'a>,
+    terms: Terms,
+    axes: &[Condition],
+    sets: &mut [u64],
+) -> PruneAnswer
+    ensures { λ a. ⌜ Prunes (now (tree .entry .post)) (now (tree .entry .label)) (lent terms (now (axes .entry))) (now (sets .entry)) a (now (sets .exit)) ⌝ }
 {
     let q = gather(terms, axes);
     prune::prune(tree.post, tree.label, q, sets)
 }
 
+// Does some choice of rows meet all conditions? An empty head is welcome.
+pub fn yes_or_no<'a>(
+    tree: TreeView<'a>,
+    terms: Terms,
+    axes: &[Condition],
+    sets: &mut [u64],
+) -> YesNoAnswer
+    ensures { λ a. ⌜ SaysYesOrNo (now (tree .entry .post)) (now (tree .entry .label)) (lent terms (now (axes .entry))) (now (sets .entry)) a (now (sets .exit)) ⌝ }
+{
+    let q = gather(terms, axes);
+    answers::yes_or_no(tree.post, tree.label, q, sets)
+}
+
+// Finds the first answer after a tuple, in the query's order; the tuple need not be an answer.
+pub fn find_after<'a>(
+    tree: TreeView<'a>,
+    terms: Terms,
+    axes: &[Condition],
+    tuple: &[u16],
+    sets: &mut [u64],
+    found: &mut [u16],
+) -> SearchAnswer
+    ensures { λ a. ⌜ FindsAfter (now (tree .entry .post)) (now (tree .entry .label)) (lent terms (now (axes .entry))) (now (tuple .entry)) (now (sets .entry)) (now (found .entry)) a (now (sets .exit)) (now (found .exit)) ⌝ }
+{
+    let q = gather(terms, axes);
+    answers::find_after(tree.post, tree.label, q, tuple, sets, found)
+}
+
+// Lists the answers, rising in the query's order, from the first on, as many as the room holds and the allowance pays for.
 pub fn list_answers<'a>(
     tree: TreeView<'a>,
     terms: Terms,
@@ -126,9 +159,7 @@ pub fn list_answers<'a>(
     sets: &mut [u64],
     found: &mut [u16],
 ) -> ListAnswer
-    ensures { λ a. ⌜ (a ≡ listAnswer (now (tree .entry .post)) (now (tree .entry .label)) (lent terms (now (axes .entry))) allowance (now (sets .entry)) (now (found .entry)))
-        × (now (sets .exit) ≡ listLeavesSets (now (tree .entry .post)) (now (tree .entry .label)) (lent terms (now (axes .entry))) allowance (now (sets .entry)) (now (found .entry)))
-        × (now (found .exit) ≡ listLeavesFound (now (tree .entry .post)) (now (tree .entry .label)) (lent terms (now (axes .entry))) allowance (now (sets .entry)) (now (found .entry))) ⌝ }
+    ensures { λ a. ⌜ Lists (now (tree .entry .post)) (now (tree .entry .label)) (lent terms (now (axes .entry))) allowance (now (sets .entry)) (now (found .entry)) a (now (sets .exit)) (now (found .exit)) ⌝ }
 {
     let q = gather(terms, axes);
     answers::list_answers(tree.post, tree.label, q, allowance, sets, found)
