@@ -1,3 +1,4 @@
 pub mod Laws
+pub mod AxisLaws
 pub mod Gathers
 pub mod Views

@@ -5,7 +5,9 @@ use meaning::ListAnswer;
 use meaning::PruneAnswer;
 use meaning::Query;
 use meaning::QueryAnswer;
+use meaning::QueryReading;
 use meaning::SearchAnswer;
+use meaning::SentenceAnswer;
 use meaning::TableAnswer;
 use meaning::YesNoAnswer;
 ghost use mathlib.Core.Path.{_≡_};
@@ -13,7 +15,9 @@ ghost use mathlib.Core.List.{[]};
 ghost use Prim.Native.Nat.{ℕ, _≤_, _<_};
 ghost use lib.ListN.{length, getD};
 ghost use Rattle.meaning.specs.Query.{no-condition};
-ghost use Rattle.pouchmeadow.specs.Promised.{ChecksTable, ChecksQuery, Prunes, SaysYesOrNo, FindsAfter, Lists};
+ghost use Rattle.meaning.specs.Sentences.{SentenceRead};
+ghost use Rattle.table.specs.Rows.{Accepted};
+ghost use Rattle.pouchmeadow.specs.Promised.{axisAmong, axisOn, ChecksTable, TestsAxis, ChecksQuery, Prunes, SaysYesOrNo, FindsAfter, Lists, ReadsQuery, HandsBack};
 ghost use Rattle.pouchmeadow.specs.Lent.{lent, gathered, placed, few};
 
 // A tree as its caller holds it: the post numbers and the labels of its rows.
@@ -36,6 +40,43 @@ pub fn check_table<'a>(tree: TreeView<'a>) -> TableAnswer
     ensures { λ r. ⌜ ChecksTable (now (tree .entry .post)) (now (tree .entry .label)) r ⌝ }
 {
     table::check_table(tree.post, tree.label)
+}
+
+// The axis test on an accepted table.
+fn axis_of_tree(post: &[u16], code: u8, p: usize, q: usize) -> bool
+    requires { ⌜ Accepted (now post) ⌝ }
+    ensures { λ r. ⌜ r ≡ axisAmong (now (post .entry)) code p q ⌝ }
+{
+    if 6 < code {
+        return false;
+    }
+    if post.len() <= p {
+        return false;
+    }
+    if post.len() <= q {
+        return false;
+    }
+    let mut parents = [0u16; 1024];
+    let mut levels = [0u16; 1024];
+    prune::fill_columns(post, &mut parents, &mut levels);
+    table::axis_holds(post, &parents, &levels, code, p, q)
+}
+
+fn axis_on(post: &[u16], label: &[u16], code: u8, p: usize, q: usize) -> bool
+    ensures { λ r. ⌜ r ≡ axisOn (now (post .entry)) (now (label .entry)) code p q ⌝ }
+{
+    let t = table::check_table(post, label);
+    match t {
+        TableAnswer::Refused(_) => false,
+        TableAnswer::Tree => axis_of_tree(post, code, p, q),
+    }
+}
+
+// Does the axis hold from row p to row q? No, where the columns are no tree, the code is no axis, or a row is outside the tree.
+pub fn axis_holds<'a>(tree: TreeView<'a>, code: u8, p: usize, q: usize) -> bool
+    ensures { λ r. ⌜ TestsAxis (now (tree .entry .post)) (now (tree .entry .label)) code p q r ⌝ }
+{
+    axis_on(tree.post, tree.label, code, p, q)
 }
 
 // One record of a lent list, by value.
@@ -163,4 +204,30 @@ pub fn list_answers<'a>(
 {
     let q = gather(terms, axes);
     answers::list_answers(tree.post, tree.label, q, allowance, sets, found)
+}
+
+// Reads a query text: its query by value, and its label names into a lent buffer. On a refusal the query is blank.
+pub fn read_query(text: &[u8], names: &mut [u8]) -> QueryReading
+    ensures { λ r. ⌜ ReadsQuery (now (text .entry)) (now (names .entry)) r (now (names .exit)) ⌝ }
+{
+    query_text::read_query(text, names)
+}
+
+// Reads the sentence at a text's front: post numbers and label numbers go to the fronts of the two columns.
+pub fn read_sentence(
+    text: &[u8],
+    names: &[u8],
+    post: &mut [u16],
+    label: &mut [u16],
+) -> SentenceAnswer
+    ensures { λ r. ⌜ SentenceRead (now (text .entry)) (now (names .entry)) (now (post .entry)) (now (label .entry)) r (now (post .exit)) (now (label .exit)) ⌝ }
+{
+    brackets::read_sentence(text, names, post, label)
+}
+
+// The part of the text behind the sentence that an answer tells of; the whole text where the answer is a refusal.
+pub fn rest<'a>(text: &'a [u8], answer: SentenceAnswer) -> &'a [u8]
+    ensures { λ r. ⌜ HandsBack (now (text .entry)) answer (now r) ⌝ }
+{
+    brackets::rest(text, answer)
 }
