@@ -33,17 +33,17 @@ pub few-is : (n : ℕ) → (few n ≤ n) × (few n ≤ 32)
 unfolding few
 few-is n = go (ltb n 32) refl
   where
-  go : (b : Bool) → ltb n 32 ≡ b → (cond b n 32 ≤ n) × (cond b n 32 ≤ 32)
-  go true e = let l = ltb-true n 32 e in (omega arith, omega (arith, l))
-  go false e = let l = ltb-false n 32 e in (omega (arith, l), omega arith)
+    go : (b : Bool) → ltb n 32 ≡ b → (cond b n 32 ≤ n) × (cond b n 32 ≤ 32)
+    go true e = let l = ltb-true n 32 e in (omega arith, omega (arith, l))
+    go false e = let l = ltb-false n 32 e in (omega (arith, l), omega arith)
 
 few-all : (n : ℕ) → n ≤ 32 → few n ≡ n
 unfolding few
 few-all n h = go (ltb n 32) refl
   where
-  go : (b : Bool) → ltb n 32 ≡ b → cond b n 32 ≡ n
-  go true e = refl
-  go false e = let l = ltb-false n 32 e in omega (arith, l, h)
+    go : (b : Bool) → ltb n 32 ≡ b → cond b n 32 ≡ n
+    go true e = refl
+    go false e = let l = ltb-false n 32 e in omega (arith, l, h)
 
 filled-length : (cs : List Condition) (i : ℕ) → length (filled cs i) ≡ 32
 unfolding filled blank
@@ -55,9 +55,9 @@ unfolding filled
 filled-at cs zero k h l = absurd (omega (arith, l))
 filled-at cs (suc i) k h l = go (filled-at cs i k (omega (arith, h))) (below-suc l)
   where
-  go : (k < i → getD (filled cs i) k no-condition ≡ getD cs k no-condition) → (k < i) ⊎ (k ≡ i) → getD (set (filled cs i) i (getD cs i no-condition)) k no-condition ≡ getD cs k no-condition
-  go less (inl m) = getD-set-other (filled cs i) i k _ no-condition (λ e. omega (arith, m, e)) ∙ less m
-  go less (inr e) = rw e (getD-set-same (filled cs i) i (getD cs i no-condition) no-condition (let f = filled-length cs i in omega (arith, h, f)))
+    go : (k < i → getD (filled cs i) k no-condition ≡ getD cs k no-condition) → (k < i) ⊎ (k ≡ i) → getD (set (filled cs i) i (getD cs i no-condition)) k no-condition ≡ getD cs k no-condition
+    go less (inl m) = getD-set-other (filled cs i) i k _ no-condition (λ e. omega (arith, m, e)) ∙ less m
+    go less (inr e) = rw e (getD-set-same (filled cs i) i (getD cs i no-condition) no-condition (let f = filled-length cs i in omega (arith, h, f)))
 
 -- up to 32 records the axis conditions that are asked are the list itself
 firsts-filled : (cs : List Condition) (n : ℕ) → n ≡ length cs → n ≤ 32 → firsts no-condition (filled cs n) n ≡ cs
@@ -97,11 +97,11 @@ lent-length t cs = refl
 pub lent-alike : (t : Terms) (cs : List Condition) → Alike (gathered-asks t cs) (lent t cs)
 lent-alike t cs = go (ltb 32 (length cs)) refl
   where
-  go : (b : Bool) → ltb 32 (length cs) ≡ b → Alike (gathered-asks t cs) (lent t cs)
-  go true e =
-      let l = ltb-true 32 (length cs) e in
-      uncounted (too-many _ (let m = asked-length t cs in omega (arith, l, m))) (too-many _ (let m = lent-length t cs in omega (arith, l, m)))
-  go false e = one (asked-lent t cs (ltb-false 32 (length cs) e))
+    go : (b : Bool) → ltb 32 (length cs) ≡ b → Alike (gathered-asks t cs) (lent t cs)
+    go true e =
+        let l = ltb-true 32 (length cs) e in
+        uncounted (too-many _ (let m = asked-length t cs in omega (arith, l, m))) (too-many _ (let m = lent-length t cs in omega (arith, l, m)))
+    go false e = one (asked-lent t cs (ltb-false 32 (length cs) e))
 
 -- the verdict on a table and a question that is refused 4, or by the table before that
 unfoldable pub early : List ℕ → List ℕ → Verdict
@@ -115,17 +115,17 @@ early-is : (t l : List ℕ) (q : Question) (gs : List Ground) → isCounted q �
 unfolding early lowest
 early-is t l q gs h = go (lowest (tableGrounds t l)) refl
   where
-  go : (v : Verdict) → lowest (tableGrounds t l) ≡ v → lowest (tableGrounds t l ++ (queryGrounds q ++ gs)) ≡ lowest (tableGrounds t l ++ ((Counts when true) ∷ []))
-  go fine e = lowest-append (tableGrounds t l) (queryGrounds q ++ gs) e ∙ query-refused q gs h ∙ sym (lowest-append (tableGrounds t l) ((Counts when true) ∷ []) e)
-  go (refuse r) e = lowest-refused (tableGrounds t l) (queryGrounds q ++ gs) r e ∙ sym (lowest-refused (tableGrounds t l) ((Counts when true) ∷ []) r e)
+    go : (v : Verdict) → lowest (tableGrounds t l) ≡ v → lowest (tableGrounds t l ++ (queryGrounds q ++ gs)) ≡ lowest (tableGrounds t l ++ ((Counts when true) ∷ []))
+    go fine e = lowest-append (tableGrounds t l) (queryGrounds q ++ gs) e ∙ query-refused q gs h ∙ sym (lowest-append (tableGrounds t l) ((Counts when true) ∷ []) e)
+    go (refuse r) e = lowest-refused (tableGrounds t l) (queryGrounds q ++ gs) r e ∙ sym (lowest-refused (tableGrounds t l) ((Counts when true) ∷ []) r e)
 
 early-refuses : (t l : List ℕ) → (r : Refusal) × (early t l ≡ refuse r)
 unfolding early lowest
 early-refuses t l = go (lowest (tableGrounds t l)) refl
   where
-  go : (v : Verdict) → lowest (tableGrounds t l) ≡ v → (r : Refusal) × (lowest (tableGrounds t l ++ ((Counts when true) ∷ [])) ≡ refuse r)
-  go fine e = (Counts, lowest-append (tableGrounds t l) _ e)
-  go (refuse r) e = (r, lowest-refused (tableGrounds t l) _ r e)
+    go : (v : Verdict) → lowest (tableGrounds t l) ≡ v → (r : Refusal) × (lowest (tableGrounds t l ++ ((Counts when true) ∷ [])) ≡ refuse r)
+    go fine e = (Counts, lowest-append (tableGrounds t l) _ e)
+    go (refuse r) e = (r, lowest-refused (tableGrounds t l) _ r e)
 
 -- What an entry makes of the verdict is the same for alike questions, if it makes the same of a refusal whatever the question is.
 pub alike-says : {X : Type 0} (t l : List ℕ) (gs : Question → List Ground) (F : Question → Verdict → X) → ((q p : Question) (r : Refusal) → F q (refuse r) ≡ F p (refuse r))
