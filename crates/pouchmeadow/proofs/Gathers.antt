@@ -15,7 +15,7 @@ use prog.Routine.{Routine}
 use prog.Wp.{Heap}
 use ghost.Atoms.{Atoms, sem}
 use contract.Monad.{Fun, fact}
-use types.Kit.{Given, ‵, raw, _⊛_, some, later, _$_, _∵_, !, qed, move, drop, use1, use2, split, join, pick, fsplit, fjoin, frame, await, updating, now as at-once, show, done}
+use types.Kit.{Given, ‵, raw, _⊛_, some, later, _$_, _∵_, !, qed, move, drop, use1, use2, split, join, pick, fjoin, frame, await, updating, now as at-once, show, done}
 use denote.RattleType.{RattleType, owns}
 use denote.Laws.{Is, shows}
 use denote.Ref.{RefT}
@@ -30,7 +30,6 @@ use Rattle.meaning.specs.declared.Condition.{Condition}
 use Rattle.meaning.specs.declared.Query.{Query}
 use Rattle.meaning.proofs.Condition as TC
 use Rattle.meaning.proofs.Query as TQ
-use Rattle.meaning.proofs.Query.Laws as TQ′
 use Rattle.pouchmeadow.specs.declared.Terms.{Terms}
 use Rattle.pouchmeadow.specs.Lent.{gathered, few}
 use Rattle.pouchmeadow.proofs.Terms as TT

@@ -1,7 +1,7 @@
 -- A lent list of conditions and the query that is gathered from it: every entry answers the same and leaves the same for both. Assumes nothing.
 --     few-is, filled-at        what is in place
 --     asked-lent               up to 32 records the query asks what the list asks
---     too-many                 33 records and more are refused 4, whatever they are
+--     too-many, many-refused   33 records and more are refused 4, whatever they are
 --     alike-says               what an entry makes of the verdict on a question is the same for alike questions: one law, of which each entry's law is an instance
 use mathlib.Core.Path.{_≡_, refl, sym, ap, _∙_}
 use mathlib.Core.Bool.{Bool, true, false, cond}
@@ -10,17 +10,18 @@ use mathlib.Core.Logic.{_⊎_, inl, inr}
 use Prim.Native.Nat.{ℕ, zero, suc, _+_, _≤_, _<_}
 use native.Mathlib.Omega.{arith}
 use native.Mathlib.Nat.{zero-add}
-use lib.Dec.{ltb, leb, eqb}
+use lib.Dec.{ltb, eqb}
 use lib.ListN.{length, take, getD, set, length-set, length-replicate}
 use lib.Seq.{ext-getD, getD-set-same, getD-set-other}
 use borrow.Author.Tests.{ltb-true, ltb-false, leb-true}
-use Rattle.meaning.specs.Tests.{_&_, _or_, non}
-use Rattle.meaning.specs.Query.{Question, Problem, problem, firsts, asked, isCounted, no-condition, no-label, takes}
+use Rattle.meaning.specs.Tests.{_or_, non}
+use Rattle.meaning.specs.Query.{Question, problem, firsts, asked, isCounted, no-condition, no-label, takes}
 use Rattle.meaning.specs.Pruning.{strikings, pruned}
 use Rattle.meaning.specs.Words.{wordsOf}
 use Rattle.meaning.specs.Answers.{isYes, answers, answersAfter}
 use Rattle.meaning.specs.Entries.{Ground, _when_, Verdict, fine, refuse, lowest, tableGrounds, queryGrounds, querySays, queryAnswer, needed, pruneGrounds, pruneSays, pruneAnswer, unless, pruneLeaves, at-front, cleared, yesNoSays, yesNoAnswer, yesNoLeaves, isTuple, searchGrounds, searchSays, searchAnswer, searchLeavesSets, first-at-front, searchLeavesFound, listGrounds, listOutcome, listSays, listAnswer, listLeavesSets, joined, listLeavesFound}
 use Rattle.meaning.specs.declared.Condition.{Condition}
+use Rattle.meaning.specs.declared.QueryAnswer.the-variants.{Refused as QueryRefused}
 use Rattle.meaning.specs.declared.Refusal.{Refusal}
 use Rattle.meaning.specs.declared.Refusal.the-variants.{Counts, EmptyHead, Tuple, ShortBuffer}
 use Rattle.theory.specs.Tests.{and-r, not-so, tab-at, tab-length, below-suc}
@@ -79,6 +80,11 @@ asked-lent t cs h = rw (few-all (length cs) h) (ap (λ (ds : List Condition). le
 pub too-many : (q : Question) → 32 < length (q .axes) → isCounted q ≡ false
 unfolding isCounted
 too-many q h = not-so _ (λ k. let l = leb-true (length (q .axes)) 32 (and-r _ _ (and-r _ _ (and-r _ _ (and-r _ _ k)))) in omega (arith, h, l))
+
+-- so a lent list of 33 records or more is refused 4, whatever they are
+pub many-refused : (t : Terms) (cs : List Condition) → 32 < length cs → queryAnswer (lent t cs) ≡ QueryRefused Counts
+unfolding queryAnswer querySays queryGrounds lent
+many-refused t cs h = let q = lent t cs in rw (lowest-here Counts (isCounted q) _ (too-many q h)) refl
 
 -- questions that every entry treats alike: one question, or two of which each is refused 4
 pub data Alike (q p : Question) : Type 0 where

@@ -12,6 +12,7 @@ use Rattle.meaning.specs.Query.{Question}
 use Rattle.meaning.specs.Entries.{tableAnswer, queryAnswer, pruneAnswer, pruneLeaves, yesNoAnswer, yesNoLeaves, searchAnswer, searchLeavesSets, searchLeavesFound, listAnswer, listLeavesSets, listLeavesFound}
 use Rattle.meaning.specs.QueryTexts.{reading, buffer}
 use Rattle.meaning.specs.Sentences.{sentenceRest}
+use Rattle.meaning.specs.declared.Query.{Query}
 use Rattle.meaning.specs.declared.TableAnswer.{TableAnswer}
 use Rattle.meaning.specs.declared.QueryAnswer.{QueryAnswer}
 use Rattle.meaning.specs.declared.PruneAnswer.{PruneAnswer}
@@ -20,6 +21,8 @@ use Rattle.meaning.specs.declared.SearchAnswer.{SearchAnswer}
 use Rattle.meaning.specs.declared.ListAnswer.{ListAnswer}
 use Rattle.meaning.specs.declared.QueryReading.{QueryReading}
 use Rattle.meaning.specs.declared.SentenceAnswer.{SentenceAnswer}
+use Rattle.pouchmeadow.specs.declared.Terms.{Terms}
+use Rattle.pouchmeadow.specs.Lent.{termsOf}
 
 -- t are the post numbers, l the labels, q the question, `sets` and `found` the buffers as they come
 abbrev pub ChecksTable : List ℕ → List ℕ → TableAnswer → Type 0
@@ -34,6 +37,9 @@ axisOn t l code p q = isSized t l & isTree t & axisAmong t code p q
 
 abbrev pub TestsAxis : List ℕ → List ℕ → ℕ → ℕ → ℕ → Bool → Type 0
 TestsAxis t l code p q b = b ≡ axisOn t l code p q
+
+abbrev pub TakesTerms : Query → Terms → Type 0
+TakesTerms q t = t ≡ termsOf q
 
 abbrev pub ChecksQuery : Question → QueryAnswer → Type 0
 ChecksQuery q a = a ≡ queryAnswer q

@@ -3,12 +3,10 @@
 --     ..-settled                        each entry, for every input, as it is promised in Promised.antt
 use mathlib.Core.Path.{_≡_, sym, _∙_}
 use mathlib.Core.List.{List}
-use mathlib.Core.Bool.{Bool}
 use Prim.Native.Nat.{ℕ}
 use Rattle.meaning.specs.Query.{Question}
 use Rattle.meaning.specs.Sentences.{SentenceRead}
-use Rattle.meaning.specs.declared.TableAnswer.{TableAnswer}
-use Rattle.meaning.specs.declared.QueryAnswer.{QueryAnswer}
+use Rattle.meaning.specs.declared.Query.{Query}
 use Rattle.meaning.specs.declared.PruneAnswer.{PruneAnswer}
 use Rattle.meaning.specs.declared.YesNoAnswer.{YesNoAnswer}
 use Rattle.meaning.specs.declared.SearchAnswer.{SearchAnswer}
@@ -16,7 +14,7 @@ use Rattle.meaning.specs.declared.ListAnswer.{ListAnswer}
 use Rattle.meaning.specs.declared.QueryReading.{QueryReading}
 use Rattle.meaning.specs.declared.SentenceAnswer.{SentenceAnswer}
 use Rattle.brackets.specs.Unique.{one-answer, one-post, one-label}
-use Rattle.pouchmeadow.specs.Promised.{ChecksTable, TestsAxis, ChecksQuery, Prunes, SaysYesOrNo, FindsAfter, Lists, ReadsQuery, HandsBack}
+use Rattle.pouchmeadow.specs.Promised.{ChecksTable, TestsAxis, TakesTerms, ChecksQuery, Prunes, SaysYesOrNo, FindsAfter, Lists, ReadsQuery, HandsBack}
 
 -- at most one result is allowed
 abbrev pub Settled : {X : Type 0} → (X → Type 0) → Type 0
@@ -36,6 +34,9 @@ table-settled t l = by-equation _
 
 pub axis-settled : (t l : List ℕ) (code p q : ℕ) → Settled (TestsAxis t l code p q)
 axis-settled t l code p q = by-equation _
+
+pub terms-settled : (q : Query) → Settled (TakesTerms q)
+terms-settled q = by-equation _
 
 pub query-settled : (q : Question) → Settled (ChecksQuery q)
 query-settled q = by-equation _

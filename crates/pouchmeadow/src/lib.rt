@@ -17,7 +17,7 @@ ghost use lib.ListN.{length, getD};
 ghost use Rattle.meaning.specs.Query.{no-condition};
 ghost use Rattle.meaning.specs.Sentences.{SentenceRead};
 ghost use Rattle.table.specs.Rows.{Accepted};
-ghost use Rattle.pouchmeadow.specs.Promised.{axisAmong, axisOn, ChecksTable, TestsAxis, ChecksQuery, Prunes, SaysYesOrNo, FindsAfter, Lists, ReadsQuery, HandsBack};
+ghost use Rattle.pouchmeadow.specs.Promised.{axisAmong, axisOn, ChecksTable, TestsAxis, TakesTerms, ChecksQuery, Prunes, SaysYesOrNo, FindsAfter, Lists, ReadsQuery, HandsBack};
 ghost use Rattle.pouchmeadow.specs.Lent.{lent, gathered, placed, few};
 
 // A tree as its caller holds it: the post numbers and the labels of its rows.
@@ -33,6 +33,21 @@ pub struct Terms {
     pub head: [u8; 8],
     pub label_count: usize,
     pub labels: [LabelCondition; 32],
+}
+
+// The terms of a query by value, as the reader of query texts gives one. Its axis conditions can then be lent as a list.
+pub fn terms_of(q: Query) -> Terms
+    ensures { λ t. ⌜ TakesTerms q t ⌝ }
+{
+    let head = q.head;
+    let labels = q.labels;
+    Terms {
+        variables: q.variables,
+        head_count: q.head_count,
+        head,
+        label_count: q.label_count,
+        labels,
+    }
 }
 
 // Is it a tree? Any two columns.

@@ -1,5 +1,4 @@
-use mathlib.Core.Path.{sym, _∙_}
-use native.Mathlib.Omega.{arith}
+use mathlib.Core.Path.{_∙_}
 use Rattle.pouchmeadow.proofs.AxisLaws.{no-axis, no-row, no-second-row, among-is}
 use borrow.Author.Needs.{needs}
 use Rattle.pouchmeadow.proofs.axis_of_tree.Statement.{statement}

@@ -1,7 +1,7 @@
 -- `condition_of` meets its contract: a walk of its MIR, by hand. The place of `axes[i]` is 3 * i past the slice's pointer, and the struct is read there whole.
 -- The slice reference is Copy: what it owns is had twice, one copy is kept whole for the exit, and of the other the fractured borrow is looked into.
 -- Assumes nothing.
-use mathlib.Core.Path.{_≡_, refl, sym}
+use mathlib.Core.Path.{refl, sym}
 use Prim.Native.Nat.{ℕ, _*_, _<_, _^_}
 use native.Mathlib.Omega.{arith}
 use mathlib.Core.List.{List, [], _∷_}

@@ -14,7 +14,7 @@ use base.Fml.{Lft, Share, Fml, ftrue, flft}
 use prog.Memory.{Memory}
 use prog.Routine.{Routine}
 use prog.Wp.{Heap, Calls, Loops, WpFn, Tables}
-use ghost.Atoms.{Atoms, sem}
+use ghost.Atoms.{Atoms}
 use contract.Lifetimes.{Lfts}
 use contract.Monad.{Fun, fact}
 use contract.Running.{givenOf, tables, tablesOf}
@@ -91,36 +91,36 @@ module _ {M : Type 1} (𝓤 : URA M) (H : Heap 𝓤) (A : Atoms 𝓤) (W : Given
   abbrev mach : Val
   mach = T′.lowered d
 
-  abbrev tuplev : Val
-  tuplev = sliceVal (tuple .ptr) (length (tuple .now))
+  abbrev tuple-val : Val
+  tuple-val = sliceVal (tuple .ptr) (length (tuple .now))
 
-  abbrev setsv : Val
-  setsv = sliceVal (sets .ptr) (length (sets .now))
+  abbrev sets-val : Val
+  sets-val = sliceVal (sets .ptr) (length (sets .now))
 
-  abbrev foundv : Val
-  foundv = sliceVal (found .ptr) (length (found .now))
+  abbrev found-val : Val
+  found-val = sliceVal (found .ptr) (length (found .now))
 
   abbrev at : Vals here.signature κs
-  at = (mach ∷ [], (tv ∷ [], (list-val s ∷ [], (tuplev ∷ [], (setsv ∷ [], (foundv ∷ [], tt))))))
+  at = (mach ∷ [], (tv ∷ [], (list-val s ∷ [], (tuple-val ∷ [], (sets-val ∷ [], (found-val ∷ [], tt))))))
 
   abbrev Post : Val → SProp 𝓤
   Post = walkOf 𝓤 H A here.ended stayed (here.clauses 𝓤 H A mem run) .post ((κs, (q₀, (q₁, (q₂, (q₃, (q₄, tt))))), tt, (d, (terms, (s, (tuple, (sets, (found, tt)))))), at), tt)
 
-  abbrev TUPLEOwn : Fml
-  TUPLEOwn = ShrSlice (named 2) κ₂ u16 .own tuple (tuplev ∷ [])
+  abbrev TupleOwn : Fml
+  TupleOwn = ShrSlice (named 2) κ₂ u16 .own tuple (tuple-val ∷ [])
 
-  abbrev SETSOwn : Fml
-  SETSOwn = MutSlice (named 3) κ₃ u64 .own sets (setsv ∷ [])
+  abbrev SetsOwn : Fml
+  SetsOwn = MutSlice (named 3) κ₃ u64 .own sets (sets-val ∷ [])
 
-  abbrev FOUNDOwn : Fml
-  FOUNDOwn = MutSlice (named 4) κ₄ u16 .own found (foundv ∷ [])
+  abbrev FoundOwn : Fml
+  FoundOwn = MutSlice (named 4) κ₄ u16 .own found (found-val ∷ [])
 
   -- what the callee is passed: each column at a half of the view's token
   abbrev κs′ : Lfts 5
   κs′ = (κ₀, (κ₀, (κ₂, (κ₃, (κ₄, tt)))))
 
   abbrev passed : Val → Vals core.signature κs′
-  passed v = (post-val d ∷ [], (label-val d ∷ [], (v ∷ [], (tuplev ∷ [], (setsv ∷ [], (foundv ∷ [], tt))))))
+  passed v = (post-val d ∷ [], (label-val d ∷ [], (v ∷ [], (tuple-val ∷ [], (sets-val ∷ [], (found-val ∷ [], tt))))))
 
   abbrev to : Val → Core 𝓤 H A mem run .Ghost
   to v = ((κs′, (PosShare·left q₀, (PosShare·right q₀, (q₂, (q₃, (q₄, tt))))), tt, (d .post, (d .label, (all, (tuple, (sets, (found, tt)))))), passed v), tt)
@@ -129,17 +129,17 @@ module _ {M : Type 1} (𝓤 : URA M) (H : Heap 𝓤) (A : Atoms 𝓤) (W : Given
   goes v = qed W ((‵ (flft κ₀ (PosShare·left q₀)) ⊛ ‵ (flft κ₀ (PosShare·right q₀)) ⊛ ‵ (flft κ₂ q₂) ⊛ ‵ (flft κ₃ q₃) ⊛ ‵ (flft κ₄ q₄) ⊛ ‵ ftrue) ∷ ‵ (owns (ShrSlice (named 0) κ₀ u16 ∷ ShrSlice (named 1) κ₀ u16 ∷ Q ∷ ShrSlice (named 2) κ₂ u16 ∷ MutSlice (named 3) κ₃ u64 ∷ MutSlice (named 4) κ₄ u16 ∷ []) (d .post, (d .label, (all, (tuple, (sets, (found, tt)))))) (passed v)) ∷ []) ∵ join ! $ frame ! $ done !
 
   abbrev before : List (Item 𝓤)
-  before = ‵ (flft κ₀ q₀) ∷ ‵ (flft κ₂ q₂) ∷ ‵ (flft κ₃ q₃) ∷ ‵ (flft κ₄ q₄) ∷ ‵ (ViewOwn κ₀ d) ∷ ‵ TUPLEOwn ∷ ‵ SETSOwn ∷ ‵ FOUNDOwn ∷ []
+  before = ‵ (flft κ₀ q₀) ∷ ‵ (flft κ₂ q₂) ∷ ‵ (flft κ₃ q₃) ∷ ‵ (flft κ₄ q₄) ∷ ‵ (ViewOwn κ₀ d) ∷ ‵ TupleOwn ∷ ‵ SetsOwn ∷ ‵ FoundOwn ∷ []
 
   abbrev after : Val → List (Item 𝓤)
-  after v = raw (Core 𝓤 H A mem run .pre (to v)) ∷ ‵ (ViewOwn κ₀ d) ∷ ‵ TUPLEOwn ∷ []
+  after v = raw (Core 𝓤 H A mem run .pre (to v)) ∷ ‵ (ViewOwn κ₀ d) ∷ ‵ TupleOwn ∷ []
 
   -- the view, the query and the buffers, with the tokens, give what the callee asks, and what can be copied is kept
   asks : (v : Val) → Is Q all (v ∷ []) → ent 𝓤 (⋆ 𝓤 H A before) (⋆ 𝓤 H A (after v))
   asks v is =
       qed W before ∵ use1 W (‵ (flft κ₀ (PosShare·left q₀)) ⊛ ‵ (flft κ₀ (PosShare·right q₀))) (W .lfts .lft-split κ₀ q₀) $ split ! $
       move ! (5 ∷ []) $ use1 W (‵ (PostOwn κ₀ d) ⊛ ‵ (LabelOwn κ₀ d) ⊛ ‵ (ViewOwn κ₀ d)) (columns 𝓤 H A W κ₀ d) $ split3 ! $
-      move ! (8 ∷ []) $ use1 W (‵ TUPLEOwn ⊛ ‵ TUPLEOwn) (shr-slice-copy 𝓤 H A W (named 2) κ₂ u16 .twice tuple (tuplev ∷ [])) $ split ! $
+      move ! (8 ∷ []) $ use1 W (‵ TupleOwn ⊛ ‵ TupleOwn) (shr-slice-copy 𝓤 H A W (named 2) κ₂ u16 .twice tuple (tuple-val ∷ [])) $ split ! $
       nothing ! $ move ! (12 ∷ 0 ∷ []) $ fjoin ! $ move ! (11 ∷ 0 ∷ []) $ fjoin ! $ move ! (1 ∷ 0 ∷ []) $ fjoin ! $ owned ! Q (Is Q) (LL.makes TQ.the-type TQ′.the-plain 𝓤 H A) all _ is $ fjoin ! $ move ! (3 ∷ 0 ∷ []) $ fjoin ! $ move ! (2 ∷ 0 ∷ []) $ fjoin ! $
       nothing ! $ move ! (4 ∷ 5 ∷ 6 ∷ 7 ∷ 8 ∷ 0 ∷ []) $ group ! 6 $ use2 W (raw (Core 𝓤 H A mem run .pre (to v))) (goes v) $
       keep ! (0 ∷ 2 ∷ 1 ∷ []) $ done !
@@ -161,13 +161,13 @@ module _ {M : Type 1} (𝓤 : URA M) (H : Heap 𝓤) (A : Atoms 𝓤) (W : Given
       split ! $ split ! $ cut ((‵ (flft κ₀ (PosShare·left q₀)) ⊛ ‵ (flft κ₀ (PosShare·right q₀)) ⊛ ‵ (flft κ₂ q₂) ⊛ ‵ (flft κ₃ q₃) ⊛ ‵ (flft κ₄ q₄) ⊛ ‵ ftrue) ∷ []) (‵ (flft κ₀ (PosShare·left q₀)) ∷ ‵ (flft κ₀ (PosShare·right q₀)) ∷ ‵ (flft κ₂ q₂) ∷ ‵ (flft κ₃ q₃) ∷ ‵ (flft κ₄ q₄) ∷ ‵ ftrue ∷ []) _ (id⊢ 𝓤 _) $ use2 W (‵ (flft κ₀ q₀)) (W .lfts .lft-join κ₀ q₀) $
       -- [the tokens; true; the result; what is ensured]
       move ! (6 ∷ []) $ use1 W (some (λ (zs : Unit {0} × (Unit {0} × (Unit {0} × (Unit {0} × (List ℕ × (List ℕ × Unit {0})))))). ‵ (lasts core.ended κs′ (d .post, (d .label, (all, (tuple, (sets, (found, tt)))))) zs) ⊛ raw (fact 𝓤 (FindsAfter (now (d .post)) (now (d .label)) (asked all) (now tuple) (now sets) (now found) r (zs .1 .1 .1 .1 .0) (zs .1 .1 .1 .1 .1 .0))))) (id⊢ 𝓤 _) $ pick ! (λ zs.
-      split ! $ move ! (1 ∷ []) $ heard ! (FindsAfter (now (d .post)) (now (d .label)) (asked all) (now tuple) (now sets) (now found) r (zs .1 .1 .1 .1 .0) (zs .1 .1 .1 .1 .1 .0)) (λ e. fsplit ! $ drop ! $ fsplit ! $ drop ! $ fsplit ! $ drop ! $ fsplit ! $ drop ! $ fsplit ! $ fsplit ! $ move ! (1 ∷ []) $ feqL ! (λ lsets. move ! (1 ∷ []) $ fsplit ! $ fsplit ! $ move ! (1 ∷ []) $ feqL ! (λ lfound. move ! (1 ∷ []) $
+      split ! $ move ! (1 ∷ []) $ heard ! (FindsAfter (now (d .post)) (now (d .label)) (asked all) (now tuple) (now sets) (now found) r (zs .1 .1 .1 .1 .0) (zs .1 .1 .1 .1 .1 .0)) (λ e. fsplit ! $ drop ! $ fsplit ! $ drop ! $ fsplit ! $ drop ! $ fsplit ! $ drop ! $ fsplit ! $ fsplit ! $ move ! (1 ∷ []) $ feqL ! (λ same-sets. move ! (1 ∷ []) $ fsplit ! $ fsplit ! $ move ! (1 ∷ []) $ feqL ! (λ same-found. move ! (1 ∷ []) $
       move ! (8 ∷ []) $ peeks ! S.the-row (Is S.the-row) (shows 𝓤 H A S.the-row) r (u ∷ []) (λ is. at-once ! $
-      show ! (λ (r″ : SearchAnswer). ex 𝓤 (λ (sets″ : List ℕ). ex 𝓤 (λ (found″ : List ℕ). ex 𝓤 (λ (known : Told r″ sets″ found″ u). ⋆ 𝓤 H A (left r″ sets″ found″ u))))) r $ show ! (λ (sets″ : List ℕ). ex 𝓤 (λ (found″ : List ℕ). ex 𝓤 (λ (known : Told r sets″ found″ u). ⋆ 𝓤 H A (left r sets″ found″ u)))) (zs .1 .1 .1 .1 .0) $ show ! (λ (found″ : List ℕ). ex 𝓤 (λ (known : Told r (zs .1 .1 .1 .1 .0) found″ u). ⋆ 𝓤 H A (left r (zs .1 .1 .1 .1 .0) found″ u))) (zs .1 .1 .1 .1 .1 .0) $ show ! (λ (known : Told r (zs .1 .1 .1 .1 .0) (zs .1 .1 .1 .1 .1 .0) u). ⋆ 𝓤 H A (left r (zs .1 .1 .1 .1 .0) (zs .1 .1 .1 .1 .1 .0) u)) (promised r (zs .1 .1 .1 .1 .0) (zs .1 .1 .1 .1 .1 .0) e, lsets, lfound, is) $
+      show ! (λ (r″ : SearchAnswer). ex 𝓤 (λ (sets″ : List ℕ). ex 𝓤 (λ (found″ : List ℕ). ex 𝓤 (λ (known : Told r″ sets″ found″ u). ⋆ 𝓤 H A (left r″ sets″ found″ u))))) r $ show ! (λ (sets″ : List ℕ). ex 𝓤 (λ (found″ : List ℕ). ex 𝓤 (λ (known : Told r sets″ found″ u). ⋆ 𝓤 H A (left r sets″ found″ u)))) (zs .1 .1 .1 .1 .0) $ show ! (λ (found″ : List ℕ). ex 𝓤 (λ (known : Told r (zs .1 .1 .1 .1 .0) found″ u). ⋆ 𝓤 H A (left r (zs .1 .1 .1 .1 .0) found″ u))) (zs .1 .1 .1 .1 .1 .0) $ show ! (λ (known : Told r (zs .1 .1 .1 .1 .0) (zs .1 .1 .1 .1 .1 .0) u). ⋆ 𝓤 H A (left r (zs .1 .1 .1 .1 .0) (zs .1 .1 .1 .1 .1 .0) u)) (promised r (zs .1 .1 .1 .1 .0) (zs .1 .1 .1 .1 .1 .0) e, same-sets, same-found, is) $
       keep ! (4 ∷ 5 ∷ 6 ∷ 7 ∷ 3 ∷ 2 ∷ 0 ∷ []) $ done !))))))
 
   abbrev had : SearchAnswer → List ℕ → List ℕ → Val → List (Item 𝓤)
-  had r sets′ found′ u = ‵ (flft κ₀ q₀) ∷ ‵ (flft κ₁ q₁) ∷ ‵ (flft κ₂ q₂) ∷ ‵ (flft κ₃ q₃) ∷ ‵ (flft κ₄ q₄) ∷ ‵ (ViewOwn κ₀ d) ∷ ‵ (ListOwn κ₁ s) ∷ ‵ TUPLEOwn ∷ ‵ (finally u64 (sets .name) sets′) ∷ ‵ (finally u16 (found .name) found′) ∷ ‵ (S.the-row .own r (u ∷ [])) ∷ []
+  had r sets′ found′ u = ‵ (flft κ₀ q₀) ∷ ‵ (flft κ₁ q₁) ∷ ‵ (flft κ₂ q₂) ∷ ‵ (flft κ₃ q₃) ∷ ‵ (flft κ₄ q₄) ∷ ‵ (ViewOwn κ₀ d) ∷ ‵ (ListOwn κ₁ s) ∷ ‵ TupleOwn ∷ ‵ (finally u64 (sets .name) sets′) ∷ ‵ (finally u16 (found .name) found′) ∷ ‵ (S.the-row .own r (u ∷ [])) ∷ []
 
   exits : (r : SearchAnswer) (sets′ : List ℕ) (found′ : List ℕ) (u : Val) → Told r sets′ found′ u → ent 𝓤 (⋆ 𝓤 H A (had r sets′ found′ u)) (Post u)
   exits r sets′ found′ u known =
@@ -176,12 +176,12 @@ module _ {M : Type 1} (𝓤 : URA M) (H : Heap 𝓤) (A : Atoms 𝓤) (W : Given
       nothing ! $ move ! (5 ∷ 0 ∷ []) $ fjoin ! $ move ! (4 ∷ 0 ∷ []) $ fjoin ! $ move ! (3 ∷ 0 ∷ []) $ fjoin ! $ move ! (2 ∷ 0 ∷ []) $ fjoin ! $ owned ! N (Is N) (LL.makes TT.the-type TT′.the-plain 𝓤 H A) terms _ isT $ fjoin ! $ move ! (1 ∷ 0 ∷ []) $ fjoin ! $ frame ! $ done !
 
   module _ (C : Calls 𝓤 H) (Λ : Loops 𝓤 H) (fm : FmC 𝓤 H (W .laws) C) (known-gather : Triple 𝓤 (C #gather) (Gather 𝓤 H A mem run)) (known-core : Triple 𝓤 (C #core) (Core 𝓤 H A mem run)) where
-    walk : Holds (hasTy (T′.mir (named 0)) mach) × WT mach → Is (ShrSlice (named 1) κ₁ R) s (list-val s ∷ []) → Is (ShrSlice (named 2) κ₂ u16) tuple (tuplev ∷ []) → Room u64 (length (sets .now)) → Room u16 (length (found .now))
-        → ent 𝓤 (onEntry 𝓤 H A here.signature κs (q₀, (q₁, (q₂, (q₃, (q₄, tt))))) (d, (terms, (s, (tuple, (sets, (found, tt)))))) at) (WpFn 𝓤 H C Λ code.function (mach ∷ tv ∷ list-val s ∷ tuplev ∷ setsv ∷ foundv ∷ []) Post)
-    walk wt p ptuple roomsets roomfound =
-        qed W ((‵ (flft κ₀ q₀) ⊛ ‵ (flft κ₁ q₁) ⊛ ‵ (flft κ₂ q₂) ⊛ ‵ (flft κ₃ q₃) ⊛ ‵ (flft κ₄ q₄) ⊛ ‵ ftrue) ∷ ‵ (owns (B κs ∷ N ∷ ShrSlice (named 1) κ₁ R ∷ ShrSlice (named 2) κ₂ u16 ∷ MutSlice (named 3) κ₃ u64 ∷ MutSlice (named 4) κ₄ u16 ∷ []) (d, (terms, (s, (tuple, (sets, (found, tt)))))) at) ∷ []) ∵ enter ! C Λ code.function (mach ∷ tv ∷ list-val s ∷ tuplev ∷ setsv ∷ foundv ∷ []) _ $
+    walk : Holds (hasTy (T′.mir (named 0)) mach) × WT mach → Is (ShrSlice (named 1) κ₁ R) s (list-val s ∷ []) → Is (ShrSlice (named 2) κ₂ u16) tuple (tuple-val ∷ []) → Room u64 (length (sets .now)) → Room u16 (length (found .now))
+        → ent 𝓤 (onEntry 𝓤 H A here.signature κs (q₀, (q₁, (q₂, (q₃, (q₄, tt))))) (d, (terms, (s, (tuple, (sets, (found, tt)))))) at) (WpFn 𝓤 H C Λ code.function (mach ∷ tv ∷ list-val s ∷ tuple-val ∷ sets-val ∷ found-val ∷ []) Post)
+    walk wt p is-tuple sets-room found-room =
+        qed W ((‵ (flft κ₀ q₀) ⊛ ‵ (flft κ₁ q₁) ⊛ ‵ (flft κ₂ q₂) ⊛ ‵ (flft κ₃ q₃) ⊛ ‵ (flft κ₄ q₄) ⊛ ‵ ftrue) ∷ ‵ (owns (B κs ∷ N ∷ ShrSlice (named 1) κ₁ R ∷ ShrSlice (named 2) κ₂ u16 ∷ MutSlice (named 3) κ₃ u64 ∷ MutSlice (named 4) κ₄ u16 ∷ []) (d, (terms, (s, (tuple, (sets, (found, tt)))))) at) ∷ []) ∵ enter ! C Λ code.function (mach ∷ tv ∷ list-val s ∷ tuple-val ∷ sets-val ∷ found-val ∷ []) _ $
         alloc1 ! (λ l₀. alloc1 ! (λ l₁. alloc1 ! (λ l₂. alloc1 ! (λ l₃. alloc1 ! (λ l₄. alloc1 ! (λ l₅. alloc1 ! (λ l₆. alloc1 ! (λ l₇. alloc1 ! (λ l₈. alloc1 ! (λ l₉. alloc1 ! (λ l₁₀. alloc1 ! (λ l₁₁. alloc1 ! (λ l₁₂. alloc1 ! (λ l₁₃. alloc0 ! $ params1 ! $
-        pass1 ! (init ! 24 refl wt) $ pass1 ! (init ! 22 refl (LL.lawful TT.the-type TT′.the-laws 𝓤 H A W .typed terms _ isT .0)) $ pass1 ! (init ! 20 refl (shr-slice-lawful 𝓤 H A W (named 1) κ₁ R .typed s (list-val s ∷ []) p .0)) $ pass1 ! (init ! 18 refl (shr-slice-lawful 𝓤 H A W (named 2) κ₂ u16 .typed tuple (tuplev ∷ []) ptuple .0)) $ pass1 ! (init ! 16 refl (tt, (tt, (record { fits = roomsets .0 }, tt)))) $ pass1 ! (init ! 14 refl (tt, (tt, (record { fits = roomfound .0 }, tt)))) $ pass0 ! $
+        pass1 ! (init ! 24 refl wt) $ pass1 ! (init ! 22 refl (LL.lawful TT.the-type TT′.the-laws 𝓤 H A W .typed terms _ isT .0)) $ pass1 ! (init ! 20 refl (shr-slice-lawful 𝓤 H A W (named 1) κ₁ R .typed s (list-val s ∷ []) p .0)) $ pass1 ! (init ! 18 refl (shr-slice-lawful 𝓤 H A W (named 2) κ₂ u16 .typed tuple (tuple-val ∷ []) is-tuple .0)) $ pass1 ! (init ! 16 refl (tt, (tt, (record { fits = sets-room .0 }, tt)))) $ pass1 ! (init ! 14 refl (tt, (tt, (record { fits = found-room .0 }, tt)))) $ pass0 ! $
         -- [_13; …; room for _0; …; the tokens; what the parameters own]: both are taken apart, and what is made anew is dropped
         move ! (29 ∷ []) $ fsplit ! $ move ! (1 ∷ []) $ fsplit ! $ drop ! $ fsplit ! $ move ! (1 ∷ []) $ fsplit ! $ move ! (1 ∷ []) $ fsplit ! $ move ! (1 ∷ []) $ fsplit ! $ move ! (1 ∷ []) $ drop ! $
         move ! (33 ∷ []) $ cut ((‵ (flft κ₀ q₀) ⊛ ‵ (flft κ₁ q₁) ⊛ ‵ (flft κ₂ q₂) ⊛ ‵ (flft κ₃ q₃) ⊛ ‵ (flft κ₄ q₄) ⊛ ‵ ftrue) ∷ []) (‵ (flft κ₀ q₀) ∷ ‵ (flft κ₁ q₁) ∷ ‵ (flft κ₂ q₂) ∷ ‵ (flft κ₃ q₃) ∷ ‵ (flft κ₄ q₄) ∷ ‵ ftrue ∷ []) _ (id⊢ 𝓤 _) $
@@ -194,9 +194,9 @@ module _ {M : Type 1} (𝓤 : URA M) (H : Heap 𝓤) (A : Atoms 𝓤) (W : Given
         assigns ! (of-opd ! (load ! (from ! (fld ! refl (stop !))) (look-in ! 34 (sub ! 0 refl (whole !))))) (from ! (stop !)) (init ! 20 refl (tt, wt .1 .0)) $
         assigns ! (of-opd ! (load ! (from ! (fld ! refl (stop !))) (look-in ! 34 (sub ! 1 refl (whole !))))) (from ! (stop !)) (init ! 18 refl (tt, wt .1 .1 .0)) $
         assigns ! (addr ! (from ! (fld ! refl (hop ! (look-in ! 26 (sub ! 0 refl (whole !))) (stop !))))) (from ! (stop !)) (init ! 16 refl (tt, tt)) $
-        assigns ! (agg ! (and-then ! (load ! (from ! (stop !)) (look ! 16 refl)) (and-then ! (load ! (from ! (fld ! refl (stop !))) (look-in ! 26 (sub ! 1 refl (whole !)))) (no-more !)))) (from ! (stop !)) (init ! 14 refl (tt, (tt, (record { fits = roomsets .0 }, tt)))) $
+        assigns ! (agg ! (and-then ! (load ! (from ! (stop !)) (look ! 16 refl)) (and-then ! (load ! (from ! (fld ! refl (stop !))) (look-in ! 26 (sub ! 1 refl (whole !)))) (no-more !)))) (from ! (stop !)) (init ! 14 refl (tt, (tt, (record { fits = sets-room .0 }, tt)))) $
         assigns ! (addr ! (from ! (fld ! refl (hop ! (look-in ! 24 (sub ! 0 refl (whole !))) (stop !))))) (from ! (stop !)) (init ! 12 refl (tt, tt)) $
-        assigns ! (agg ! (and-then ! (load ! (from ! (stop !)) (look ! 12 refl)) (and-then ! (load ! (from ! (fld ! refl (stop !))) (look-in ! 24 (sub ! 1 refl (whole !)))) (no-more !)))) (from ! (stop !)) (init ! 10 refl (tt, (tt, (record { fits = roomfound .0 }, tt)))) $
+        assigns ! (agg ! (and-then ! (load ! (from ! (stop !)) (look ! 12 refl)) (and-then ! (load ! (from ! (fld ! refl (stop !))) (look-in ! 24 (sub ! 1 refl (whole !)))) (no-more !)))) (from ! (stop !)) (init ! 10 refl (tt, (tt, (record { fits = found-room .0 }, tt)))) $
         move ! (2 ∷ 3 ∷ 4 ∷ 5 ∷ 6 ∷ 7 ∷ 8 ∷ 9 ∷ []) $ cut before (after v) _ (asks v is) $
         -- [what the callee asks; what is kept; the list's token; the list; _13; …]
         calls-at ! fm (Core 𝓤 H A mem run) known-core (to v) (and-then ! (load ! (from ! (stop !)) (look ! 15 refl)) (and-then ! (load ! (from ! (stop !)) (look ! 13 refl)) (and-then ! (load ! (from ! (stop !)) (look ! 17 refl)) (and-then ! (load ! (from ! (stop !)) (look ! 23 refl)) (and-then ! (load ! (from ! (stop !)) (look ! 9 refl)) (and-then ! (load ! (from ! (stop !)) (look ! 5 refl)) (no-more !))))))) (λ u.

@@ -14,7 +14,7 @@ use base.Fml.{Lft, Share, Fml, ftrue, flft}
 use prog.Memory.{Memory}
 use prog.Routine.{Routine}
 use prog.Wp.{Heap, Calls, Loops, WpFn, Tables}
-use ghost.Atoms.{Atoms, sem}
+use ghost.Atoms.{Atoms}
 use contract.Lifetimes.{Lfts}
 use contract.Monad.{Fun, fact}
 use contract.Running.{givenOf, tables, tablesOf}
@@ -82,7 +82,7 @@ stayed = (stay-none B yes, (stay-none (λ _. N) yes, (stay-none-slice (1 ∷ [])
 abbrev Core : {M : Type 1} (𝓤 : URA M) (H : Heap 𝓤) (A : Atoms 𝓤) (mem : Memory → SProp 𝓤) (run : Routine → Fun 𝓤) → Contract 𝓤
 Core 𝓤 H A mem run = tripleOf 𝓤 H A core.signature (core.spec 𝓤 H A mem run)
 
-module _ {M : Type 1} (𝓤 : URA M) (H : Heap 𝓤) (A : Atoms 𝓤) (W : Given 𝓤 H A) (mem : Memory → SProp 𝓤) (run : Routine → Fun 𝓤) (κ₀ κ₁ κ₂ κ₃ : Lft) (q₀ q₁ q₂ q₃ : Share) (d : TreeView) (terms : Terms) (tv : Val) (isT : Is N terms (tv ∷ [])) (s : RefT (List Condition)) (allowance : ℕ) (gallowance : allowance < 2 ^ 64) (sets : RefT (List ℕ)) (found : RefT (List ℕ)) where
+module _ {M : Type 1} (𝓤 : URA M) (H : Heap 𝓤) (A : Atoms 𝓤) (W : Given 𝓤 H A) (mem : Memory → SProp 𝓤) (run : Routine → Fun 𝓤) (κ₀ κ₁ κ₂ κ₃ : Lft) (q₀ q₁ q₂ q₃ : Share) (d : TreeView) (terms : Terms) (tv : Val) (isT : Is N terms (tv ∷ [])) (s : RefT (List Condition)) (allowance : ℕ) (allowance-fits : allowance < 2 ^ 64) (sets : RefT (List ℕ)) (found : RefT (List ℕ)) where
   abbrev all : Query
   all = all-of terms (s .now)
 
@@ -92,30 +92,30 @@ module _ {M : Type 1} (𝓤 : URA M) (H : Heap 𝓤) (A : Atoms 𝓤) (W : Given
   abbrev mach : Val
   mach = T′.lowered d
 
-  abbrev setsv : Val
-  setsv = sliceVal (sets .ptr) (length (sets .now))
+  abbrev sets-val : Val
+  sets-val = sliceVal (sets .ptr) (length (sets .now))
 
-  abbrev foundv : Val
-  foundv = sliceVal (found .ptr) (length (found .now))
+  abbrev found-val : Val
+  found-val = sliceVal (found .ptr) (length (found .now))
 
   abbrev at : Vals here.signature κs
-  at = (mach ∷ [], (tv ∷ [], (list-val s ∷ [], (vint w64 allowance ∷ [], (setsv ∷ [], (foundv ∷ [], tt))))))
+  at = (mach ∷ [], (tv ∷ [], (list-val s ∷ [], (vint w64 allowance ∷ [], (sets-val ∷ [], (found-val ∷ [], tt))))))
 
   abbrev Post : Val → SProp 𝓤
   Post = walkOf 𝓤 H A here.ended stayed (here.clauses 𝓤 H A mem run) .post ((κs, (q₀, (q₁, (q₂, (q₃, tt)))), tt, (d, (terms, (s, (allowance, (sets, (found, tt)))))), at), tt)
 
-  abbrev SETSOwn : Fml
-  SETSOwn = MutSlice (named 2) κ₂ u64 .own sets (setsv ∷ [])
+  abbrev SetsOwn : Fml
+  SetsOwn = MutSlice (named 2) κ₂ u64 .own sets (sets-val ∷ [])
 
-  abbrev FOUNDOwn : Fml
-  FOUNDOwn = MutSlice (named 3) κ₃ u16 .own found (foundv ∷ [])
+  abbrev FoundOwn : Fml
+  FoundOwn = MutSlice (named 3) κ₃ u16 .own found (found-val ∷ [])
 
   -- what the callee is passed: each column at a half of the view's token
   abbrev κs′ : Lfts 4
   κs′ = (κ₀, (κ₀, (κ₂, (κ₃, tt))))
 
   abbrev passed : Val → Vals core.signature κs′
-  passed v = (post-val d ∷ [], (label-val d ∷ [], (v ∷ [], (vint w64 allowance ∷ [], (setsv ∷ [], (foundv ∷ [], tt))))))
+  passed v = (post-val d ∷ [], (label-val d ∷ [], (v ∷ [], (vint w64 allowance ∷ [], (sets-val ∷ [], (found-val ∷ [], tt))))))
 
   abbrev to : Val → Core 𝓤 H A mem run .Ghost
   to v = ((κs′, (PosShare·left q₀, (PosShare·right q₀, (q₂, (q₃, tt)))), tt, (d .post, (d .label, (all, (allowance, (sets, (found, tt)))))), passed v), tt)
@@ -124,7 +124,7 @@ module _ {M : Type 1} (𝓤 : URA M) (H : Heap 𝓤) (A : Atoms 𝓤) (W : Given
   goes v = qed W ((‵ (flft κ₀ (PosShare·left q₀)) ⊛ ‵ (flft κ₀ (PosShare·right q₀)) ⊛ ‵ (flft κ₂ q₂) ⊛ ‵ (flft κ₃ q₃) ⊛ ‵ ftrue) ∷ ‵ (owns (ShrSlice (named 0) κ₀ u16 ∷ ShrSlice (named 1) κ₀ u16 ∷ Q ∷ u64 ∷ MutSlice (named 2) κ₂ u64 ∷ MutSlice (named 3) κ₃ u16 ∷ []) (d .post, (d .label, (all, (allowance, (sets, (found, tt)))))) (passed v)) ∷ []) ∵ join ! $ frame ! $ done !
 
   abbrev before : List (Item 𝓤)
-  before = ‵ (flft κ₀ q₀) ∷ ‵ (flft κ₂ q₂) ∷ ‵ (flft κ₃ q₃) ∷ ‵ (ViewOwn κ₀ d) ∷ ‵ SETSOwn ∷ ‵ FOUNDOwn ∷ []
+  before = ‵ (flft κ₀ q₀) ∷ ‵ (flft κ₂ q₂) ∷ ‵ (flft κ₃ q₃) ∷ ‵ (ViewOwn κ₀ d) ∷ ‵ SetsOwn ∷ ‵ FoundOwn ∷ []
 
   abbrev after : Val → List (Item 𝓤)
   after v = raw (Core 𝓤 H A mem run .pre (to v)) ∷ ‵ (ViewOwn κ₀ d) ∷ []
@@ -134,7 +134,7 @@ module _ {M : Type 1} (𝓤 : URA M) (H : Heap 𝓤) (A : Atoms 𝓤) (W : Given
   asks v is =
       qed W before ∵ use1 W (‵ (flft κ₀ (PosShare·left q₀)) ⊛ ‵ (flft κ₀ (PosShare·right q₀))) (W .lfts .lft-split κ₀ q₀) $ split ! $
       move ! (4 ∷ []) $ use1 W (‵ (PostOwn κ₀ d) ⊛ ‵ (LabelOwn κ₀ d) ⊛ ‵ (ViewOwn κ₀ d)) (columns 𝓤 H A W κ₀ d) $ split3 ! $
-      nothing ! $ move ! (9 ∷ 0 ∷ []) $ fjoin ! $ move ! (8 ∷ 0 ∷ []) $ fjoin ! $ owned ! u64 (Is u64) (uint-makes 𝓤 H A W w64) allowance _ (refl, gallowance) $ fjoin ! $ owned ! Q (Is Q) (LL.makes TQ.the-type TQ′.the-plain 𝓤 H A) all _ is $ fjoin ! $ move ! (2 ∷ 0 ∷ []) $ fjoin ! $ move ! (1 ∷ 0 ∷ []) $ fjoin ! $
+      nothing ! $ move ! (9 ∷ 0 ∷ []) $ fjoin ! $ move ! (8 ∷ 0 ∷ []) $ fjoin ! $ owned ! u64 (Is u64) (uint-makes 𝓤 H A W w64) allowance _ (refl, allowance-fits) $ fjoin ! $ owned ! Q (Is Q) (LL.makes TQ.the-type TQ′.the-plain 𝓤 H A) all _ is $ fjoin ! $ move ! (2 ∷ 0 ∷ []) $ fjoin ! $ move ! (1 ∷ 0 ∷ []) $ fjoin ! $
       nothing ! $ move ! (3 ∷ 4 ∷ 5 ∷ 6 ∷ 0 ∷ []) $ group ! 5 $ use2 W (raw (Core 𝓤 H A mem run .pre (to v))) (goes v) $
       keep ! (0 ∷ 1 ∷ []) $ done !
 
@@ -155,9 +155,9 @@ module _ {M : Type 1} (𝓤 : URA M) (H : Heap 𝓤) (A : Atoms 𝓤) (W : Given
       split ! $ split ! $ cut ((‵ (flft κ₀ (PosShare·left q₀)) ⊛ ‵ (flft κ₀ (PosShare·right q₀)) ⊛ ‵ (flft κ₂ q₂) ⊛ ‵ (flft κ₃ q₃) ⊛ ‵ ftrue) ∷ []) (‵ (flft κ₀ (PosShare·left q₀)) ∷ ‵ (flft κ₀ (PosShare·right q₀)) ∷ ‵ (flft κ₂ q₂) ∷ ‵ (flft κ₃ q₃) ∷ ‵ ftrue ∷ []) _ (id⊢ 𝓤 _) $ use2 W (‵ (flft κ₀ q₀)) (W .lfts .lft-join κ₀ q₀) $
       -- [the tokens; true; the result; what is ensured]
       move ! (5 ∷ []) $ use1 W (some (λ (zs : Unit {0} × (Unit {0} × (Unit {0} × (Unit {0} × (List ℕ × (List ℕ × Unit {0})))))). ‵ (lasts core.ended κs′ (d .post, (d .label, (all, (allowance, (sets, (found, tt)))))) zs) ⊛ raw (fact 𝓤 (Lists (now (d .post)) (now (d .label)) (asked all) allowance (now sets) (now found) r (zs .1 .1 .1 .1 .0) (zs .1 .1 .1 .1 .1 .0))))) (id⊢ 𝓤 _) $ pick ! (λ zs.
-      split ! $ move ! (1 ∷ []) $ heard ! (Lists (now (d .post)) (now (d .label)) (asked all) allowance (now sets) (now found) r (zs .1 .1 .1 .1 .0) (zs .1 .1 .1 .1 .1 .0)) (λ e. fsplit ! $ drop ! $ fsplit ! $ drop ! $ fsplit ! $ drop ! $ fsplit ! $ drop ! $ fsplit ! $ fsplit ! $ move ! (1 ∷ []) $ feqL ! (λ lsets. move ! (1 ∷ []) $ fsplit ! $ fsplit ! $ move ! (1 ∷ []) $ feqL ! (λ lfound. move ! (1 ∷ []) $
+      split ! $ move ! (1 ∷ []) $ heard ! (Lists (now (d .post)) (now (d .label)) (asked all) allowance (now sets) (now found) r (zs .1 .1 .1 .1 .0) (zs .1 .1 .1 .1 .1 .0)) (λ e. fsplit ! $ drop ! $ fsplit ! $ drop ! $ fsplit ! $ drop ! $ fsplit ! $ drop ! $ fsplit ! $ fsplit ! $ move ! (1 ∷ []) $ feqL ! (λ same-sets. move ! (1 ∷ []) $ fsplit ! $ fsplit ! $ move ! (1 ∷ []) $ feqL ! (λ same-found. move ! (1 ∷ []) $
       move ! (7 ∷ []) $ peeks ! S.the-row (Is S.the-row) (shows 𝓤 H A S.the-row) r (u ∷ []) (λ is. at-once ! $
-      show ! (λ (r″ : ListAnswer). ex 𝓤 (λ (sets″ : List ℕ). ex 𝓤 (λ (found″ : List ℕ). ex 𝓤 (λ (known : Told r″ sets″ found″ u). ⋆ 𝓤 H A (left r″ sets″ found″ u))))) r $ show ! (λ (sets″ : List ℕ). ex 𝓤 (λ (found″ : List ℕ). ex 𝓤 (λ (known : Told r sets″ found″ u). ⋆ 𝓤 H A (left r sets″ found″ u)))) (zs .1 .1 .1 .1 .0) $ show ! (λ (found″ : List ℕ). ex 𝓤 (λ (known : Told r (zs .1 .1 .1 .1 .0) found″ u). ⋆ 𝓤 H A (left r (zs .1 .1 .1 .1 .0) found″ u))) (zs .1 .1 .1 .1 .1 .0) $ show ! (λ (known : Told r (zs .1 .1 .1 .1 .0) (zs .1 .1 .1 .1 .1 .0) u). ⋆ 𝓤 H A (left r (zs .1 .1 .1 .1 .0) (zs .1 .1 .1 .1 .1 .0) u)) (promised r (zs .1 .1 .1 .1 .0) (zs .1 .1 .1 .1 .1 .0) e, lsets, lfound, is) $
+      show ! (λ (r″ : ListAnswer). ex 𝓤 (λ (sets″ : List ℕ). ex 𝓤 (λ (found″ : List ℕ). ex 𝓤 (λ (known : Told r″ sets″ found″ u). ⋆ 𝓤 H A (left r″ sets″ found″ u))))) r $ show ! (λ (sets″ : List ℕ). ex 𝓤 (λ (found″ : List ℕ). ex 𝓤 (λ (known : Told r sets″ found″ u). ⋆ 𝓤 H A (left r sets″ found″ u)))) (zs .1 .1 .1 .1 .0) $ show ! (λ (found″ : List ℕ). ex 𝓤 (λ (known : Told r (zs .1 .1 .1 .1 .0) found″ u). ⋆ 𝓤 H A (left r (zs .1 .1 .1 .1 .0) found″ u))) (zs .1 .1 .1 .1 .1 .0) $ show ! (λ (known : Told r (zs .1 .1 .1 .1 .0) (zs .1 .1 .1 .1 .1 .0) u). ⋆ 𝓤 H A (left r (zs .1 .1 .1 .1 .0) (zs .1 .1 .1 .1 .1 .0) u)) (promised r (zs .1 .1 .1 .1 .0) (zs .1 .1 .1 .1 .1 .0) e, same-sets, same-found, is) $
       keep ! (4 ∷ 5 ∷ 6 ∷ 3 ∷ 2 ∷ 0 ∷ []) $ done !))))))
 
   abbrev had : ListAnswer → List ℕ → List ℕ → Val → List (Item 𝓤)
@@ -167,15 +167,15 @@ module _ {M : Type 1} (𝓤 : URA M) (H : Heap 𝓤) (A : Atoms 𝓤) (W : Given
   exits r sets′ found′ u known =
       qed W (had r sets′ found′ u) ∵ suffices ! _ (ends-at 𝓤 H A here.ended stayed (here.clauses 𝓤 H A mem run) W ((κs, (q₀, (q₁, (q₂, (q₃, tt)))), tt, (d, (terms, (s, (allowance, (sets, (found, tt)))))), at), tt) u r (tt, (tt, (tt, (tt, (sets′, (found′, tt)))))) (tt, (tt, (tt, (tt, (known .1, (known .2, tt))))))) $ says ! (known .0) $
       nothing ! $ move ! (1 ∷ 2 ∷ 3 ∷ 4 ∷ 0 ∷ []) $ group ! 5 $ frame ! $
-      nothing ! $ move ! (4 ∷ 0 ∷ []) $ fjoin ! $ move ! (3 ∷ 0 ∷ []) $ fjoin ! $ owned ! u64 (Is u64) (uint-makes 𝓤 H A W w64) allowance _ (refl, gallowance) $ fjoin ! $ move ! (2 ∷ 0 ∷ []) $ fjoin ! $ owned ! N (Is N) (LL.makes TT.the-type TT′.the-plain 𝓤 H A) terms _ isT $ fjoin ! $ move ! (1 ∷ 0 ∷ []) $ fjoin ! $ frame ! $ done !
+      nothing ! $ move ! (4 ∷ 0 ∷ []) $ fjoin ! $ move ! (3 ∷ 0 ∷ []) $ fjoin ! $ owned ! u64 (Is u64) (uint-makes 𝓤 H A W w64) allowance _ (refl, allowance-fits) $ fjoin ! $ move ! (2 ∷ 0 ∷ []) $ fjoin ! $ owned ! N (Is N) (LL.makes TT.the-type TT′.the-plain 𝓤 H A) terms _ isT $ fjoin ! $ move ! (1 ∷ 0 ∷ []) $ fjoin ! $ frame ! $ done !
 
   module _ (C : Calls 𝓤 H) (Λ : Loops 𝓤 H) (fm : FmC 𝓤 H (W .laws) C) (known-gather : Triple 𝓤 (C #gather) (Gather 𝓤 H A mem run)) (known-core : Triple 𝓤 (C #core) (Core 𝓤 H A mem run)) where
     walk : Holds (hasTy (T′.mir (named 0)) mach) × WT mach → Is (ShrSlice (named 1) κ₁ R) s (list-val s ∷ []) → Room u64 (length (sets .now)) → Room u16 (length (found .now))
-        → ent 𝓤 (onEntry 𝓤 H A here.signature κs (q₀, (q₁, (q₂, (q₃, tt)))) (d, (terms, (s, (allowance, (sets, (found, tt)))))) at) (WpFn 𝓤 H C Λ code.function (mach ∷ tv ∷ list-val s ∷ vint w64 allowance ∷ setsv ∷ foundv ∷ []) Post)
-    walk wt p roomsets roomfound =
-        qed W ((‵ (flft κ₀ q₀) ⊛ ‵ (flft κ₁ q₁) ⊛ ‵ (flft κ₂ q₂) ⊛ ‵ (flft κ₃ q₃) ⊛ ‵ ftrue) ∷ ‵ (owns (B κs ∷ N ∷ ShrSlice (named 1) κ₁ R ∷ u64 ∷ MutSlice (named 2) κ₂ u64 ∷ MutSlice (named 3) κ₃ u16 ∷ []) (d, (terms, (s, (allowance, (sets, (found, tt)))))) at) ∷ []) ∵ enter ! C Λ code.function (mach ∷ tv ∷ list-val s ∷ vint w64 allowance ∷ setsv ∷ foundv ∷ []) _ $
+        → ent 𝓤 (onEntry 𝓤 H A here.signature κs (q₀, (q₁, (q₂, (q₃, tt)))) (d, (terms, (s, (allowance, (sets, (found, tt)))))) at) (WpFn 𝓤 H C Λ code.function (mach ∷ tv ∷ list-val s ∷ vint w64 allowance ∷ sets-val ∷ found-val ∷ []) Post)
+    walk wt p sets-room found-room =
+        qed W ((‵ (flft κ₀ q₀) ⊛ ‵ (flft κ₁ q₁) ⊛ ‵ (flft κ₂ q₂) ⊛ ‵ (flft κ₃ q₃) ⊛ ‵ ftrue) ∷ ‵ (owns (B κs ∷ N ∷ ShrSlice (named 1) κ₁ R ∷ u64 ∷ MutSlice (named 2) κ₂ u64 ∷ MutSlice (named 3) κ₃ u16 ∷ []) (d, (terms, (s, (allowance, (sets, (found, tt)))))) at) ∷ []) ∵ enter ! C Λ code.function (mach ∷ tv ∷ list-val s ∷ vint w64 allowance ∷ sets-val ∷ found-val ∷ []) _ $
         alloc1 ! (λ l₀. alloc1 ! (λ l₁. alloc1 ! (λ l₂. alloc1 ! (λ l₃. alloc1 ! (λ l₄. alloc1 ! (λ l₅. alloc1 ! (λ l₆. alloc1 ! (λ l₇. alloc1 ! (λ l₈. alloc1 ! (λ l₉. alloc1 ! (λ l₁₀. alloc1 ! (λ l₁₁. alloc1 ! (λ l₁₂. alloc1 ! (λ l₁₃. alloc0 ! $ params1 ! $
-        pass1 ! (init ! 24 refl wt) $ pass1 ! (init ! 22 refl (LL.lawful TT.the-type TT′.the-laws 𝓤 H A W .typed terms _ isT .0)) $ pass1 ! (init ! 20 refl (shr-slice-lawful 𝓤 H A W (named 1) κ₁ R .typed s (list-val s ∷ []) p .0)) $ pass1 ! (init ! 18 refl (tt, record { fits = gallowance })) $ pass1 ! (init ! 16 refl (tt, (tt, (record { fits = roomsets .0 }, tt)))) $ pass1 ! (init ! 14 refl (tt, (tt, (record { fits = roomfound .0 }, tt)))) $ pass0 ! $
+        pass1 ! (init ! 24 refl wt) $ pass1 ! (init ! 22 refl (LL.lawful TT.the-type TT′.the-laws 𝓤 H A W .typed terms _ isT .0)) $ pass1 ! (init ! 20 refl (shr-slice-lawful 𝓤 H A W (named 1) κ₁ R .typed s (list-val s ∷ []) p .0)) $ pass1 ! (init ! 18 refl (tt, record { fits = allowance-fits })) $ pass1 ! (init ! 16 refl (tt, (tt, (record { fits = sets-room .0 }, tt)))) $ pass1 ! (init ! 14 refl (tt, (tt, (record { fits = found-room .0 }, tt)))) $ pass0 ! $
         -- [_13; …; room for _0; …; the tokens; what the parameters own]: both are taken apart, and what is made anew is dropped
         move ! (29 ∷ []) $ fsplit ! $ move ! (1 ∷ []) $ fsplit ! $ drop ! $ fsplit ! $ move ! (1 ∷ []) $ fsplit ! $ drop ! $ fsplit ! $ move ! (1 ∷ []) $ fsplit ! $ move ! (1 ∷ []) $ drop ! $
         move ! (32 ∷ []) $ cut ((‵ (flft κ₀ q₀) ⊛ ‵ (flft κ₁ q₁) ⊛ ‵ (flft κ₂ q₂) ⊛ ‵ (flft κ₃ q₃) ⊛ ‵ ftrue) ∷ []) (‵ (flft κ₀ q₀) ∷ ‵ (flft κ₁ q₁) ∷ ‵ (flft κ₂ q₂) ∷ ‵ (flft κ₃ q₃) ∷ ‵ ftrue ∷ []) _ (id⊢ 𝓤 _) $
@@ -188,9 +188,9 @@ module _ {M : Type 1} (𝓤 : URA M) (H : Heap 𝓤) (A : Atoms 𝓤) (W : Given
         assigns ! (of-opd ! (load ! (from ! (fld ! refl (stop !))) (look-in ! 32 (sub ! 0 refl (whole !))))) (from ! (stop !)) (init ! 18 refl (tt, wt .1 .0)) $
         assigns ! (of-opd ! (load ! (from ! (fld ! refl (stop !))) (look-in ! 32 (sub ! 1 refl (whole !))))) (from ! (stop !)) (init ! 16 refl (tt, wt .1 .1 .0)) $
         assigns ! (addr ! (from ! (fld ! refl (hop ! (look-in ! 24 (sub ! 0 refl (whole !))) (stop !))))) (from ! (stop !)) (init ! 14 refl (tt, tt)) $
-        assigns ! (agg ! (and-then ! (load ! (from ! (stop !)) (look ! 14 refl)) (and-then ! (load ! (from ! (fld ! refl (stop !))) (look-in ! 24 (sub ! 1 refl (whole !)))) (no-more !)))) (from ! (stop !)) (init ! 12 refl (tt, (tt, (record { fits = roomsets .0 }, tt)))) $
+        assigns ! (agg ! (and-then ! (load ! (from ! (stop !)) (look ! 14 refl)) (and-then ! (load ! (from ! (fld ! refl (stop !))) (look-in ! 24 (sub ! 1 refl (whole !)))) (no-more !)))) (from ! (stop !)) (init ! 12 refl (tt, (tt, (record { fits = sets-room .0 }, tt)))) $
         assigns ! (addr ! (from ! (fld ! refl (hop ! (look-in ! 22 (sub ! 0 refl (whole !))) (stop !))))) (from ! (stop !)) (init ! 10 refl (tt, tt)) $
-        assigns ! (agg ! (and-then ! (load ! (from ! (stop !)) (look ! 10 refl)) (and-then ! (load ! (from ! (fld ! refl (stop !))) (look-in ! 22 (sub ! 1 refl (whole !)))) (no-more !)))) (from ! (stop !)) (init ! 8 refl (tt, (tt, (record { fits = roomfound .0 }, tt)))) $
+        assigns ! (agg ! (and-then ! (load ! (from ! (stop !)) (look ! 10 refl)) (and-then ! (load ! (from ! (fld ! refl (stop !))) (look-in ! 22 (sub ! 1 refl (whole !)))) (no-more !)))) (from ! (stop !)) (init ! 8 refl (tt, (tt, (record { fits = found-room .0 }, tt)))) $
         move ! (2 ∷ 3 ∷ 4 ∷ 5 ∷ 6 ∷ 7 ∷ []) $ cut before (after v) _ (asks v is) $
         -- [what the callee asks; what is kept; the list's token; the list; _13; …]
         calls-at ! fm (Core 𝓤 H A mem run) known-core (to v) (and-then ! (load ! (from ! (stop !)) (look ! 14 refl)) (and-then ! (load ! (from ! (stop !)) (look ! 12 refl)) (and-then ! (load ! (from ! (stop !)) (look ! 16 refl)) (and-then ! (load ! (from ! (stop !)) (look ! 22 refl)) (and-then ! (load ! (from ! (stop !)) (look ! 8 refl)) (and-then ! (load ! (from ! (stop !)) (look ! 4 refl)) (no-more !))))))) (λ u.
