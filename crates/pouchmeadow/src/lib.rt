@@ -77,6 +77,7 @@ fn axis_of_tree(post: &[u16], code: u8, p: usize, q: usize) -> bool
     table::axis_holds(post, &parents, &levels, code, p, q)
 }
 
+// The axis test on any two columns: the table check comes first.
 fn axis_on(post: &[u16], label: &[u16], code: u8, p: usize, q: usize) -> bool
     ensures { λ r. ⌜ r ≡ axisOn (now (post .entry)) (now (label .entry)) code p q ⌝ }
 {
@@ -125,6 +126,7 @@ fn empty(terms: Terms, n: usize) -> Query
     }
 }
 
+// A query with the record c at place i of its axis conditions.
 fn put(q: Query, i: usize, c: Condition) -> Query
     requires { ⌜ i < 32 ⌝ }
     ensures { λ r. ⌜ r ≡ placed q i c ⌝ }
