@@ -1,3 +1,4 @@
 pub mod Lent
 pub mod Promised
 pub mod Settled
+pub mod Wrong
