@@ -3,7 +3,7 @@ ghost use mathlib.Core.Path.{_≡_};
 ghost use Prim.Native.Nat.{ℕ, _≤_};
 ghost use lib.ListN.{length};
 ghost use lib.Seq.{paste};
-ghost use Rattle.meaning.specs.Sentences.{SentenceRead, sentenceRest};
+ghost use Rattle.meaning.specs.Sentences.{SentenceRead, sentenceRest, blank};
 ghost use Rattle.brackets.specs.Meets.{HandedOver};
 
 mod bytes;
@@ -87,4 +87,12 @@ pub fn rest<'a>(text: &'a [u8], answer: SentenceAnswer) -> &'a [u8]
         }
         SentenceAnswer::Refused(_why) => text,
     }
+}
+
+// Is there only white space in the text?
+pub fn is_blank(text: &[u8]) -> bool
+    ensures { λ b. ⌜ b ≡ blank (now (text .entry)) ⌝ }
+{
+    let end = bytes::skip_white(text, 0);
+    end == text.len()
 }

@@ -15,3 +15,4 @@ pub mod Places
 pub mod QueryTexts
 pub mod QueryTextExamples
 pub mod Examples
+pub mod Run

@@ -1,51 +1,12 @@
 // The library asked with a buffer that holds a pattern: its answer, and which words it changed.
-use crate::cells::at64;
-use crate::cells::plus;
-use crate::cells::put64;
-use crate::cells::wrong;
-use crate::draw::mix;
 use meaning::PruneAnswer;
 use meaning::Query;
-use meaning::Refusal;
-
-fn pattern(i: usize) -> u64 {
-    mix(i as u64)
-}
-
-pub(crate) fn fill(s: &mut [u64]) {
-    let n = s.len();
-    let mut i: usize = 0;
-    while i < n {
-        put64(s, i, pattern(i));
-        i += 1;
-    }
-}
-
-// The words from one on are as they were.
-pub(crate) fn kept(s: &[u64], from: usize) -> bool {
-    let n = s.len();
-    let mut i: usize = 0;
-    while i < n {
-        if from <= i && at64(s, i) != pattern(i) {
-            return false;
-        }
-        i += 1;
-    }
-    true
-}
-
-fn number_of(r: Refusal) -> u64 {
-    match r {
-        Refusal::Columns => 1,
-        Refusal::PostNumbers => 2,
-        Refusal::ThreeRows => 3,
-        Refusal::Counts => 4,
-        Refusal::Variables => 5,
-        Refusal::Axes => 6,
-        Refusal::ShortBuffer => 9,
-        _ => 99,
-    }
-}
+use trials::buffers::fill64;
+use trials::buffers::kept64;
+use trials::cells::at64;
+use trials::cells::plus;
+use trials::cells::wrong;
+use trials::refusals::number_of;
 
 // The number of a refusal, or 100 and the strikings.
 fn number(a: PruneAnswer) -> u64 {
@@ -66,9 +27,9 @@ pub(crate) fn ask(post: &[u16], label: &[u16], q: Query, s: &mut [u64], words: u
 // Refused with this number, and no word differs.
 pub(crate) fn refused(post: &[u16], label: &[u16], q: Query, words: usize, no: u64) -> u64 {
     let mut s = [0u64; 300];
-    fill(&mut s);
+    fill64(&mut s);
     let a = ask(post, label, q, &mut s, words);
-    wrong((a == no) & kept(&s, 0))
+    wrong((a == no) & kept64(&s, 0))
 }
 
 // Pruned with these strikings, and no word differs from word `used` on.
@@ -81,9 +42,9 @@ pub(crate) fn pruned(
     used: usize,
 ) -> u64 {
     let mut s = [0u64; 300];
-    fill(&mut s);
+    fill64(&mut s);
     let a = ask(post, label, q, &mut s, words);
-    wrong((a == plus(100, strikings)) & kept(&s, used))
+    wrong((a == plus(100, strikings)) & kept64(&s, used))
 }
 
 // Two variables, at most 64 rows: the strikings, and the rows that are left as bits of a word for each variable.
@@ -96,8 +57,8 @@ pub(crate) fn leaves(
     second: u64,
 ) -> u64 {
     let mut s = [0u64; 300];
-    fill(&mut s);
+    fill64(&mut s);
     let a = ask(post, label, q, &mut s, 2);
     let sets = (at64(&s, 0) == first) & (at64(&s, 1) == second);
-    wrong((a == plus(100, strikings)) & sets & kept(&s, 2))
+    wrong((a == plus(100, strikings)) & sets & kept64(&s, 2))
 }

@@ -1,19 +1,19 @@
 // Table D of document 01 and its queries, worked out by hand.
 use crate::ask::ask;
-use crate::ask::fill;
-use crate::ask::kept;
 use crate::ask::leaves;
 use crate::ask::pruned;
-use crate::cells::at64;
-use crate::cells::plus;
-use crate::cells::wrong;
-use crate::queries::alike;
-use crate::queries::axis;
-use crate::queries::carries;
-use crate::queries::free;
-use crate::queries::two;
-use crate::trees::set_chain;
 use meaning::Query;
+use trials::buffers::fill64;
+use trials::buffers::kept64;
+use trials::cells::at64;
+use trials::cells::plus;
+use trials::cells::wrong;
+use trials::queries::alike;
+use trials::queries::axis;
+use trials::queries::carries;
+use trials::queries::free;
+use trials::queries::two;
+use trials::trees::set_chain;
 
 // The rows of D are S NP DT NN VP VBD PP IN NP NN. Label 0 stands for NP (rows 1 and 8), label 1 for NN (rows 3 and 9).
 fn on_d(q: Query, strikings: u64, first: u64, second: u64) -> u64 {
@@ -119,11 +119,11 @@ pub(crate) fn sixteen() -> u64 {
     let mut q = alike(16, 0, 0, 32, axis(1, 0, 1));
     q.axes[31] = axis(1, 14, 15);
     let mut s = [0u64; 20];
-    fill(&mut s);
+    fill64(&mut s);
     let a = ask(&post, &post, q, &mut s, 16);
     let low = (at64(&s, 0) == 0x7FFF) & (at64(&s, 1) == 0xFFFE) & (at64(&s, 13) == 0xFFFF);
     let high = (at64(&s, 14) == 0x7FFF) & (at64(&s, 15) == 0xFFFE);
-    wrong((a == 104) & low & high & kept(&s, 16))
+    wrong((a == 104) & low & high & kept64(&s, 16))
 }
 
 // 32 label conditions, of which only the last names the second variable: rows 0 and 1 carry label 5.

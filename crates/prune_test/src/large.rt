@@ -1,15 +1,15 @@
 // Two trees of 1,024 rows, where what is left can be told without trying.
 use crate::ask::ask;
-use crate::ask::fill;
-use crate::ask::kept;
-use crate::cells::at64;
-use crate::cells::plus;
-use crate::cells::wrong;
-use crate::queries::carries;
-use crate::queries::two;
-use crate::trees::set_chain;
-use crate::trees::set_flat;
 use meaning::Query;
+use trials::buffers::fill64;
+use trials::buffers::kept64;
+use trials::cells::at64;
+use trials::cells::plus;
+use trials::cells::wrong;
+use trials::queries::carries;
+use trials::queries::two;
+use trials::trees::set_chain;
+use trials::trees::set_flat;
 
 // All rows of a word; all but the first, but the first two, but the last; the first alone; the last alone.
 const ALL: u64 = 0xFFFF_FFFF_FFFF_FFFF;
@@ -35,11 +35,11 @@ fn leaves(
     d: u64,
 ) -> u64 {
     let mut s = [0u64; 40];
-    fill(&mut s);
+    fill64(&mut s);
     let got = ask(post, label, q, &mut s, 32);
     let first = (at64(&s, 0) == a) & (at64(&s, 15) == b);
     let second = (at64(&s, 16) == c) & (at64(&s, 31) == d);
-    wrong((got == plus(100, strikings)) & first & second & kept(&s, 32))
+    wrong((got == plus(100, strikings)) & first & second & kept64(&s, 32))
 }
 
 // The last row has none below it, the first none above it, and no row a sibling or one that follows.

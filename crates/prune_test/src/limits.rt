@@ -1,14 +1,14 @@
 // Each refusal from both sides of its limit, the lowest of several, and the words of the buffer.
 use crate::ask::pruned;
 use crate::ask::refused;
-use crate::cells::plus;
-use crate::queries::alike;
-use crate::queries::axis;
-use crate::queries::carries;
-use crate::queries::free;
-use crate::queries::two;
-use crate::trees::set_chain;
 use meaning::Query;
+use trials::cells::plus;
+use trials::queries::alike;
+use trials::queries::axis;
+use trials::queries::carries;
+use trials::queries::free;
+use trials::queries::two;
+use trials::trees::set_chain;
 
 // Asked of the table of one row with a buffer that is long enough.
 fn one_refused(q: Query, no: u64) -> u64 {

@@ -1,15 +1,10 @@
 // Pruning: refusals, buffers, the examples of document 01, and random trees and queries against pruning by hand.
 // Writes a line for each group: how many checks of it are wrong.
 mod ask;
-mod cells;
-mod draw;
 mod examples;
-mod hand;
 mod large;
 mod limits;
-mod queries;
 mod random;
-mod trees;
 
 fn say(what: &[u8], bad: u64) {
     let _a = io::write_all(1, what);

@@ -1,15 +1,15 @@
 // Trees and queries drawn by chance: the library against pruning by hand, every row of every set.
 use crate::ask::ask;
-use crate::ask::fill;
-use crate::ask::kept;
-use crate::cells::at64;
-use crate::cells::plus;
-use crate::cells::sum;
-use crate::cells::wrong;
-use crate::draw::draw;
-use crate::hand;
-use crate::queries;
-use crate::trees;
+use trials::buffers::fill64;
+use trials::buffers::kept64;
+use trials::cells::at64;
+use trials::cells::plus;
+use trials::cells::sum;
+use trials::cells::wrong;
+use trials::draw::draw;
+use trials::hand;
+use trials::queries;
+use trials::trees;
 
 // Words to a variable, up to 128 rows.
 fn width(rows: usize) -> usize {
@@ -54,7 +54,7 @@ fn agrees(s: &[u64], sets: &[u8], v: usize, rows: usize) -> bool {
 
 // The library's answer, in a buffer that is just long enough or a little longer.
 fn asked(case: u64, post: &[u16], label: &[u16], s: &mut [u64], used: usize) -> u64 {
-    fill(s);
+    fill64(s);
     ask(
         post,
         label,
@@ -105,7 +105,7 @@ fn judged(
     if !agrees(s, sets, v, rows) {
         return 1;
     }
-    if !kept(s, used) {
+    if !kept64(s, used) {
         return 1;
     }
     if struck & (at64(s, 0) != 0) {

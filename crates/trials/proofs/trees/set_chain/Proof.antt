@@ -1,0 +1,60 @@
+-- `trials::trees::set_chain` is safe and ends. Assumes nothing.
+use Prim.Native.Nat.{_≤_, _-_}
+use borrow.Author.Needs.{needs}
+use mathlib.Core.Path.{_≡_}
+use lib.ListN.{length}
+use Rattle.trials.proofs.trees.set_chain.Statement.{statement}
+use Rattle.trials.proofs.trees.set_chain.Tie as tie
+
+abbrev Inv-loop : tie.InvT-loop
+Inv-loop post₀ n i₀ post i = (i ≤ n) × (length post ≡ length post₀)
+
+abbrev μ-loop : tie.MeasureT-loop
+μ-loop post₀ n i₀ post i = n - i
+
+loop-holds : tie.Need-loop-holds Inv-loop μ-loop
+loop-holds c = search needs
+
+sub-narrow : tie.Need-sub-narrow Inv-loop μ-loop
+sub-narrow c = search needs
+
+sub-narrow-2 : tie.Need-sub-narrow-2 Inv-loop μ-loop
+sub-narrow-2 c = search needs
+
+narrow-requires : tie.Need-narrow-requires Inv-loop μ-loop
+narrow-requires c κs = search needs
+
+put16-requires : tie.Need-put16-requires Inv-loop μ-loop
+put16-requires c κs = search needs
+
+add-i : tie.Need-add-i Inv-loop μ-loop
+add-i c = search needs
+
+loop-less : tie.Need-loop-less Inv-loop μ-loop
+loop-less c = search needs
+
+loop-again : tie.Need-loop-again Inv-loop μ-loop
+loop-again c = search needs
+
+same-length : tie.Need-same-length Inv-loop μ-loop
+same-length c = search needs
+
+returns : tie.Need-returns Inv-loop μ-loop
+returns c = search needs
+
+pub set-chain-spec : {M : Type 1} → statement M
+set-chain-spec =
+    tie.close
+    (tie.spec
+    Inv-loop
+    μ-loop
+    loop-holds
+    sub-narrow
+    sub-narrow-2
+    narrow-requires
+    put16-requires
+    add-i
+    loop-less
+    loop-again
+    same-length
+    returns)
