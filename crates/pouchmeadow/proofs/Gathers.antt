@@ -31,7 +31,7 @@ use Rattle.meaning.specs.declared.Query.{Query}
 use Rattle.meaning.proofs.Condition as TC
 use Rattle.meaning.proofs.Query as TQ
 use Rattle.pouchmeadow.specs.declared.Terms.{Terms}
-use Rattle.pouchmeadow.specs.Lent.{gathered, few}
+use Rattle.pouchmeadow.specs.Gathered.{gathered, few}
 use Rattle.pouchmeadow.proofs.Terms as TT
 use Rattle.pouchmeadow.proofs.Terms.Laws as TT′
 use Rattle.pouchmeadow.proofs.gather as gather

@@ -27,7 +27,8 @@ use Rattle.meaning.specs.declared.Refusal.the-variants.{Counts, EmptyHead, Tupl
 use Rattle.theory.specs.Tests.{and-r, not-so, tab-at, tab-length, below-suc}
 use Rattle.theory.specs.Whole.{lowest-append, lowest-refused, lowest-here}
 use Rattle.pouchmeadow.specs.declared.Terms.{Terms}
-use Rattle.pouchmeadow.specs.Lent.{lent, blank, filled, gathered, few}
+use Rattle.pouchmeadow.specs.Lent.{lent}
+use Rattle.pouchmeadow.specs.Gathered.{blank, filled, gathered, few}
 
 -- no more than there are, and no more than there is room for
 pub few-is : (n : ℕ) → (few n ≤ n) × (few n ≤ 32)

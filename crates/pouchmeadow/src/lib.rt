@@ -18,7 +18,8 @@ ghost use Rattle.meaning.specs.Query.{no-condition};
 ghost use Rattle.meaning.specs.Sentences.{SentenceRead};
 ghost use Rattle.table.specs.Rows.{Accepted};
 ghost use Rattle.pouchmeadow.specs.Promised.{axisAmong, axisOn, ChecksTable, TestsAxis, TakesTerms, ChecksQuery, Prunes, SaysYesOrNo, FindsAfter, Lists, ReadsQuery, HandsBack};
-ghost use Rattle.pouchmeadow.specs.Lent.{lent, gathered, placed, few};
+ghost use Rattle.pouchmeadow.specs.Lent.{lent};
+ghost use Rattle.pouchmeadow.specs.Gathered.{gathered, placed, few};
 
 // A tree as its caller holds it: the post numbers and the labels of its rows.
 pub struct TreeView<'a> {

@@ -1,5 +1,5 @@
 use mathlib.Core.Path.{refl}
-use Rattle.pouchmeadow.specs.Lent.{filled, blank}
+use Rattle.pouchmeadow.specs.Gathered.{filled, blank}
 use Rattle.pouchmeadow.proofs.empty.Statement.{statement}
 use Rattle.pouchmeadow.proofs.empty.Tie as tie
 use Rattle.pouchmeadow.proofs.empty.Reads as reads

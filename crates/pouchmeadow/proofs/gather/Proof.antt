@@ -49,7 +49,7 @@ use Rattle.meaning.specs.declared.Condition.{Condition}
 use Rattle.meaning.specs.declared.Query.{Query}
 use Rattle.meaning.specs.Query.{no-condition}
 use Rattle.pouchmeadow.specs.declared.Terms.{Terms}
-use Rattle.pouchmeadow.specs.Lent.{filled, gathered, placed, few}
+use Rattle.pouchmeadow.specs.Gathered.{filled, gathered, placed, few}
 use Rattle.meaning.proofs.Condition as TC
 use Rattle.meaning.proofs.Condition.Laws as TC′
 use Rattle.meaning.proofs.Query as TQ

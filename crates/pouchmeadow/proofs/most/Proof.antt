@@ -1,5 +1,5 @@
 use borrow.Author.Tests.{lt-ltb, le-ltb}
-use Rattle.pouchmeadow.specs.Lent.{few}
+use Rattle.pouchmeadow.specs.Gathered.{few}
 use Rattle.pouchmeadow.proofs.most.Statement.{statement}
 use Rattle.pouchmeadow.proofs.most.Tie as tie
 use Rattle.pouchmeadow.proofs.most.Reads as reads
