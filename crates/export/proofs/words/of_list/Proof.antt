@@ -1,0 +1,38 @@
+-- `export::words::of_list` meets its contract. By the cases of the answer. Assumes nothing.
+use Rattle.meaning.specs.Told.{given, toldList}
+use Rattle.meaning.specs.QueryTexts.{pad}
+use Rattle.export.specs.Words.{toldWords}
+use borrow.Author.Needs.{needs}
+use Rattle.export.proofs.words.of_list.Statement.{statement}
+use Rattle.export.proofs.words.of_list.Tie as tie
+
+enum-known-a : tie.Need-enum-known-a
+enum-known-a c = search needs
+
+ending-number-requires : tie.Need-ending-number-requires
+ending-number-requires c κs = search needs
+
+enum-known-a-2 : tie.Need-enum-known-a-2
+enum-known-a-2 c = search needs
+
+of-refusal-requires : tie.Need-of-refusal-requires
+of-refusal-requires c κs = search needs
+
+returns : tie.Need-returns
+unfolding toldWords pad toldList given
+returns c = rw (c .before .before .a .given .1, c .ending-number .ensures)
+
+returns-2 : tie.Need-returns-2
+unfolding toldList
+returns-2 c = rw (c .before .before .a2 .given .1) (c .of-refusal .ensures)
+
+pub of-list-spec : {M : Type 1} → statement M
+of-list-spec =
+    tie.close
+    (tie.spec
+    enum-known-a
+    ending-number-requires
+    enum-known-a-2
+    of-refusal-requires
+    returns
+    returns-2)
