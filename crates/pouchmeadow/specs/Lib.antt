@@ -1,0 +1,5 @@
+pub mod Gathered
+pub mod Lent
+pub mod Promised
+pub mod Settled
+pub mod Wrong
