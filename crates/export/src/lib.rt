@@ -145,7 +145,7 @@ pub extern "C" fn pouchmeadow_read_query(
         × (now (labels .exit) ≡ at-front (labelNumbers (asked (reading (now (text .entry)) (length (now (names .entry))) .query) .labels)) (now (labels .entry)))
         × (now (axes .exit) ≡ at-front (axisNumbers (asked (reading (now (text .entry)) (length (now (names .entry))) .query) .axes)) (now (axes .entry))) ⌝ }
 {
-    let r = query_text::read_query(text, names);
+    let r = pouchmeadow::read_query(text, names);
     let q = r.query;
     write_head(q, head);
     write_labels(q, labels);
@@ -164,6 +164,6 @@ pub extern "C" fn pouchmeadow_read_sentence(
 )
     ensures { λ _. ⌜ SentenceTold (now (text .entry)) (now (names .entry)) (now (post .entry)) (now (label .entry)) (now (told .exit)) (now (post .exit)) (now (label .exit)) ⌝ }
 {
-    let a = brackets::read_sentence(text, names, post, label);
+    let a = pouchmeadow::read_sentence(text, names, post, label);
     *told = words::of_sentence(a);
 }

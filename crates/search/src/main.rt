@@ -54,7 +54,7 @@ fn print_sentences(text: &[u8], q: Query, names: &[u8]) {
             }
             SentenceStep::Next(n, end) => {
                 print(&out, n);
-                let rest = brackets::rest(left, SentenceAnswer::Read(1, end));
+                let rest = pouchmeadow::rest(left, SentenceAnswer::Read(1, end));
                 left = rest;
                 sentence += 1;
             }
@@ -66,7 +66,7 @@ fn print_sentences(text: &[u8], q: Query, names: &[u8]) {
 fn run(input: &[u8]) {
     let end = query_end(input);
     let mut names = [0u8; 544];
-    let r = query_text::read_query(&input[..end], &mut names);
+    let r = pouchmeadow::read_query(&input[..end], &mut names);
     let answer = r.answer;
     match answer {
         QueryTextAnswer::Refused(why) => {

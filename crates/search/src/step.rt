@@ -83,7 +83,7 @@ pub(crate) fn do_sentence(
     }
     let mut post = [0u16; 1024];
     let mut label = [0u16; 1024];
-    let a = brackets::read_sentence(text, names, &mut post, &mut label);
+    let a = pouchmeadow::read_sentence(text, names, &mut post, &mut label);
     match a {
         SentenceAnswer::Read(rows, end) => {
             list_sentence(&post[..rows], &label[..rows], end, sentence, q, out)

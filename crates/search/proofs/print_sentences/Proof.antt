@@ -9,7 +9,7 @@ use Rattle.search.proofs.print_sentences.Statement.{statement}
 use Rattle.search.proofs.print_sentences.Tie as tie
 use Rattle.search.proofs.print_sentences.Reads as reads
 use Rattle.search.proofs.print_sentences.Lts as lts
-use Rattle.brackets.proofs.rest.Reads as rest-reads
+use Rattle.pouchmeadow.proofs.rest.Reads as rest-reads
 use Rattle.search.proofs.print.Reads as print-reads
 use Rattle.search.proofs.step.do_sentence.Reads as do-sentence-reads
 

@@ -8,7 +8,7 @@ use Rattle.search.proofs.run.Statement.{statement}
 use Rattle.search.proofs.run.Tie as tie
 use Rattle.search.proofs.run.Reads as reads
 use Rattle.search.proofs.run.Lts as lts
-use Rattle.query_text.proofs.read_query.Reads as read-query-reads
+use Rattle.pouchmeadow.proofs.read_query.Reads as read-query-reads
 use Rattle.search.proofs.lines.put_refusal.Reads as put-refusal-reads
 use Rattle.search.proofs.print.Reads as print-reads
 use Rattle.search.proofs.print_sentences.Reads as print-sentences-reads
