@@ -1,7 +1,9 @@
 #!/usr/bin/env python3
 """Random and damaged inputs through the program, each compared with tests/by_definition.py.
 
-usage: host/damaged_runs.py [--count N] [--first SEED] [--jobs N]       (from anywhere; the program must be built)
+usage: host/damaged_runs.py [--count N] [--first SEED] [--jobs N] [--program PATH]      (from anywhere; the program must be built)
+
+--program names another build of the program, which is started as it is.
 
 A run is bad if the program ends with another status than 0, takes longer than 20 seconds, says anything on standard error,
 prints a line that document 01 does not have, or prints other bytes than the definitions give. Bad inputs are written to
@@ -23,11 +25,14 @@ sys.path.insert(0, str(ROOT / "tests"))
 import by_definition  # noqa: E402
 
 NAMES = ["NP", "NN", "S", "A", "B$", "C|D", "X1"]
+PROGRAM = None  # another build, by --program
 LINE = re.compile(rb"[0-9]+( [0-9]+){1,8}|[0-9]+ (finished|full|spent) [0-9]+ [0-9]+|[0-9]+ refused (1[0-3]?|[2-9]) [0-9]+")
 
 
 def command():
     """The built program, under the kit's loader, and its emulator where the processor is not x86-64."""
+    if PROGRAM:
+        return [PROGRAM]
     kit = pathlib.Path(os.environ.get("RATTLE_HOME") or pathlib.Path(shutil.which("rt")).resolve().parent.parent)
     tools = kit / "on" / platform.machine() / "toolchain"
     emulator = tools / "bin" / "qemu-x86_64"
@@ -132,7 +137,10 @@ def main():
     words.add_argument("--count", type=int, default=100000)
     words.add_argument("--first", type=int, default=1)
     words.add_argument("--jobs", type=int, default=os.cpu_count())
+    words.add_argument("--program")
     asked = words.parse_args()
+    global PROGRAM
+    PROGRAM = asked.program
     bad = 0
     with multiprocessing.Pool(asked.jobs) as pool:
         for seed, why in pool.imap_unordered(wrong, range(asked.first, asked.first + asked.count), chunksize=20):
