@@ -6,5 +6,10 @@ fn main() {
     if std::env::var("CARGO_CFG_TARGET_ARCH").as_deref() == Ok("x86_64") {
         println!("cargo:rustc-link-search=native={}", folder.display());
         println!("cargo:rustc-link-lib=static=export");
+    } else {
+        // the benchmark alone: host/bench/native.sh compiles the library for this processor, for measuring
+        let native = std::path::Path::new(&here).join("../target/native/libexport.a");
+        println!("cargo:rerun-if-changed={}", native.display());
+        println!("cargo:rustc-link-arg-benches={}", native.display());
     }
 }
