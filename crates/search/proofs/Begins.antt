@@ -1,12 +1,12 @@
 -- The query text and what is behind it, byte after byte. Assumes nothing.
 use mathlib.Core.Path.{_≡_, refl, sym, ap, _∙_}
 use mathlib.Core.Bool.{Bool, true, false}
-use mathlib.Core.List.{List, [], _∷_, _++_}
+use mathlib.Core.List.{List, [], _∷_, _++_, append-nil}
 use Prim.Native.Nat.{ℕ, suc, _+_, _≤_, _<_}
 use native.Mathlib.Omega.{arith}
 use lib.Dec.{ltb}
 use lib.ListN.{length, getD, take, drop, drop-of-length-le}
-use lib.Seq.{take-suc, drop-cons}
+use lib.Seq.{take-suc, drop-cons, append-snoc}
 use borrow.Author.Tests.{eq-eqb, ne-eqb, ltb-false}
 use Rattle.meaning.specs.Names.{pick}
 use Rattle.meaning.specs.Texts.{pick as choose, Place, legal, bad}
@@ -27,14 +27,6 @@ pub record Goes (s : List ℕ) (i : ℕ) : Type 0 where
 pub goes-start : (s : List ℕ) → Goes s 0
 goes-start s = record { inside = omega arith; text = refl; rest = refl }
 
-append-nil : (a : List ℕ) → a ++ [] ≡ a
-append-nil [] = refl
-append-nil (x ∷ a) = ap (λ (y : List ℕ). x ∷ y) (append-nil a)
-
-append-one : (a : List ℕ) (x : ℕ) (b : List ℕ) → a ++ (x ∷ b) ≡ (a ++ (x ∷ [])) ++ b
-append-one [] x b = refl
-append-one (y ∷ a) x b = ap (λ (z : List ℕ). y ∷ z) (append-one a x b)
-
 module _ (s : List ℕ) (i : ℕ) (G : Goes s i) (l : i < length s) where
   here : drop i s ≡ getD s i 0 ∷ drop (suc i) s
   here = drop-cons s i 0 l
@@ -52,7 +44,7 @@ module _ (s : List ℕ) (i : ℕ) (G : Goes s i) (l : i < length s) where
             G .text
             ∙ (ap (λ (x : List ℕ). take i s ++ query-text x) here
             ∙ (ap (λ (b : Bool). take i s ++ (getD s i 0 ∷ pick b [] (query-text (drop (suc i) s)))) n
-            ∙ (append-one (take i s) (getD s i 0) (query-text (drop (suc i) s))
+            ∙ (sym (append-snoc (take i s) (getD s i 0) (query-text (drop (suc i) s)))
             ∙ (ap (λ (x : List ℕ). x ++ query-text (drop (suc i) s)) (sym (take-suc s i 0 l)) ∙ ap (λ (k : ℕ). take k s ++ query-text (drop k s)) (sym one)))));
         rest =
             G .rest

@@ -7,7 +7,7 @@ use native.Mathlib.Omega.{arith}
 use native.Mathlib.Nat.{mul-le-mul-right, div-mul-le-self, not-suc-le-zero, le-of-suc-le-suc}
 use lib.Dec.{ltb, leb, eqb}
 use lib.ListN.{length, take, drop}
-use lib.Seq.{sets-eq, take-at, drop-at}
+use lib.Seq.{length-take-le, sets-eq, take-at, drop-at}
 use borrow.Author.Tests.{eqb-false}
 use Rattle.meaning.specs.Tests.{_&_}
 use Rattle.meaning.specs.Names.{pick}
@@ -60,12 +60,6 @@ take-each k [] (suc n) l each i m = absurd (not-suc-le-zero m)
 take-each k (s ∷ L) zero l each i m = absurd (not-suc-le-zero m)
 take-each k (s ∷ L) (suc n) l each zero m = each 0 (omega arith)
 take-each k (s ∷ L) (suc n) l each (suc i) m = take-each k L n (le-of-suc-le-suc l) (λ j h. each (suc j) (omega (arith, h))) i (le-of-suc-le-suc m)
-
-take-count : (L : List (List ℕ)) (n : ℕ) → n ≤ length L → length (take n L) ≡ n
-take-count [] zero l = refl
-take-count [] (suc n) l = absurd (not-suc-le-zero l)
-take-count (s ∷ L) zero l = refl
-take-count (s ∷ L) (suc n) l = ap suc (take-count L n (le-of-suc-le-suc l))
 
 -- 2. A listing that was not refused.
 is-listed : ListAnswer → Bool
@@ -146,7 +140,7 @@ module _ (t labels : List ℕ) (q : Query) (A : ℕ) (sets₀ found : List ℕ) 
       l ∙ (ap (λ (w : Verdict). unless w (at-front (joined (take (listOutcome t labels (asked q) A (length found) .tuples) L)) found) found) (said .0)
       ∙ ap (λ (j : ℕ). at-front (joined (take j L)) found) (said .1)) in
       ap (chunks k n) v
-      ∙ (ap (λ (j : ℕ). chunks k j (joined T ++ drop (length (joined T)) found)) (sym (take-count L n listed-count))
+      ∙ (ap (λ (j : ℕ). chunks k j (joined T ++ drop (length (joined T)) found)) (sym (length-take-le n L listed-count))
       ∙ chunks-joined k T (drop (length (joined T)) found) (take-each k L n listed-count each))
 
 -- 3. Lines at the front of the buffer.

@@ -1,6 +1,6 @@
 -- Stores of lines, part after part, and the tuples of a buffer. Assumes nothing.
 use mathlib.Core.Path.{_≡_, refl, sym, ap, _∙_}
-use mathlib.Core.List.{List, [], _∷_, _++_, map, append-assoc}
+use mathlib.Core.List.{List, [], _∷_, _++_, map, append-assoc, append-nil}
 use Prim.Native.Nat.{ℕ, zero, suc, _+_, _*_, _≤_, _<_}
 use native.Mathlib.Omega.{arith}
 use native.Mathlib.Nat.{mul-le-mul-right, mul-le-mul-left, mul-assoc, add-mul, one-mul}
@@ -63,11 +63,7 @@ stores-end w b₀ at b i l m h = record {
 -- 3. The rows of a tuple.
 rows-behind : (rs : List ℕ) (r : ℕ) → rows-spaced (rs ++ (r ∷ [])) ≡ rows-spaced rs ++ (32 ∷ decimal r)
 unfolding rows-spaced
-rows-behind [] r = ap (λ (x : List ℕ). 32 ∷ x) (append-empty (decimal r))
-  where
-    append-empty : (l : List ℕ) → l ++ [] ≡ l
-    append-empty [] = refl
-    append-empty (x ∷ l) = ap (λ (y : List ℕ). x ∷ y) (append-empty l)
+rows-behind [] r = ap (λ (x : List ℕ). 32 ∷ x) (append-nil (decimal r))
 rows-behind (q ∷ rs) r = ap (λ (x : List ℕ). 32 ∷ (decimal q ++ x)) (rows-behind rs r) ∙ ap (λ (x : List ℕ). 32 ∷ x) (sym (append-assoc (decimal q) (rows-spaced rs) (32 ∷ decimal r)))
 
 pub row-next : (found : List ℕ) (from i : ℕ) → from + i < length found → rows-spaced (take (i + 1) (drop from found)) ≡ rows-spaced (take i (drop from found)) ++ (32 ∷ decimal (getD found (from + i) 0))
@@ -113,11 +109,7 @@ chunk-next k (suc n) s =
 
 lines-behind : (k : ℕ) (ts : List (List ℕ)) (t : List ℕ) → tuple-lines k (ts ++ (t ∷ [])) ≡ tuple-lines k ts ++ line k (map decimal t)
 unfolding tuple-lines
-lines-behind k [] t = append-empty (line k (map decimal t))
-  where
-    append-empty : (l : List ℕ) → l ++ [] ≡ l
-    append-empty [] = refl
-    append-empty (x ∷ l) = ap (λ (y : List ℕ). x ∷ y) (append-empty l)
+lines-behind k [] t = append-nil (line k (map decimal t))
 lines-behind k (s ∷ ts) t = ap (λ (x : List ℕ). line k (map decimal s) ++ x) (lines-behind k ts t) ∙ sym (append-assoc (line k (map decimal s)) (tuple-lines k ts) (line k (map decimal t)))
 
 pub tuple-next : (s k j : ℕ) (found : List ℕ) → tuple-lines s (chunks k (j + 1) found) ≡ tuple-lines s (chunks k j found) ++ line s (map decimal (take k (drop (j * k) found)))
