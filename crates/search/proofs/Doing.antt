@@ -6,7 +6,7 @@ use Prim.Native.Nat.{ℕ, zero, suc, _+_, _-_, _*_, _/_, _≤_, _<_}
 use native.Mathlib.Omega.{arith}
 use native.Mathlib.Nat.{mul-le-mul-right, div-mul-le-self, not-suc-le-zero, le-of-suc-le-suc}
 use lib.Dec.{ltb, leb, eqb}
-use lib.ListN.{length, take, drop}
+use lib.ListN.{length, take, drop, length-replicate}
 use lib.Seq.{length-take-le, sets-eq, take-at, drop-at}
 use borrow.Author.Tests.{eqb-false}
 use Rattle.meaning.specs.Tests.{_&_}
@@ -166,6 +166,20 @@ leaves-on o end lines out out′ r e n w = record {
   answered = ap (λ (x : ℕ). Next x end) n ∙ ap stepSays (sym e);
   printed = w ∙ ap (λ (x : Step). at-front (linesOf x) out) (sym e);
 }
+
+-- the answer asks of the two buffers only how long they are, so any that are as long as a run's will do
+answer-by-length : (t labels : List ℕ) (q : Question) (A : ℕ) (s s′ f f′ : List ℕ) → length s ≡ length s′ → length f ≡ length f′ → listAnswer t labels q A s f ≡ listAnswer t labels q A s′ f′
+unfolding listAnswer listGrounds
+answer-by-length t labels q A s s′ f f′ e g =
+    ap
+    (λ (n : ℕ). listSays
+    (lowest (tableGrounds t labels ++ (queryGrounds q ++ ((EmptyHead when eqb (length (q .head)) 0) ∷ (ShortBuffer when ltb n (needed t q)) ∷ []))))
+    (listOutcome t labels q A (length f))) e
+    ∙ ap (λ (n : ℕ). listSays (lowest (listGrounds t labels q s′)) (listOutcome t labels q A n)) g
+
+pub any-buffers : (t labels : List ℕ) (q : Question) (s f : List ℕ) → length s ≡ 256 → length f ≡ 4096 → listing t labels q ≡ listAnswer t labels q 1000000 s f
+unfolding listing
+any-buffers t labels q s f e g = answer-by-length t labels q 1000000 _ s _ f (length-replicate {A = ℕ} 256 0 ∙ sym e) (length-replicate {A = ℕ} 4096 0 ∙ sym g)
 
 -- a listing that is not refused, and one that is
 pub lists : (k end : ℕ) (L : List (List ℕ)) (a : ListAnswer) (e : Ending) (n used : ℕ) (ts : List (List ℕ)) → a ≡ Listed e n used → ts ≡ take n L → listed k end L a ≡ goes-on (tuple-lines k ts ++ ending-line k e n used) end

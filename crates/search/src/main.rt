@@ -42,11 +42,25 @@ fn print(out: &[u8; 262144], n: usize) {
 
 // Sentence after sentence, until only white space is left or one is refused.
 fn print_sentences(text: &[u8], q: Query, names: &[u8]) {
+    let mut post = [0u16; 1024];
+    let mut label = [0u16; 1024];
+    let mut sets = [0u64; 256];
+    let mut found = [0u16; 4096];
     let mut out = [0u8; 262144];
     let mut left = text;
     let mut sentence: u64 = 1;
     loop {
-        let s = do_sentence(left, sentence, q, names, &mut out);
+        let s = do_sentence(
+            left,
+            sentence,
+            q,
+            names,
+            &mut post,
+            &mut label,
+            &mut sets,
+            &mut found,
+            &mut out,
+        );
         match s {
             SentenceStep::Last(n) => {
                 print(&out, n);

@@ -41,24 +41,24 @@ fn put_listing(
     put_end(out, at, sentence, e, tuples, used)
 }
 
-// A sentence that was read, up to `end`, into these columns.
+// A sentence that was read, up to `end`, into these columns. What the sets and the rows found held before is all one.
 fn list_sentence(
     post: &[u16],
     label: &[u16],
     end: usize,
     sentence: u64,
     q: Query,
+    sets: &mut [u64; 256],
+    found: &mut [u16; 4096],
     out: &mut [u8; 262144],
 ) -> SentenceStep
     ensures { λ a. ⌜ Leaves (listed sentence end (answers (problem (now (post .entry)) (now (label .entry)) (asked q))) (listing (now (post .entry)) (now (label .entry)) (asked q))) a (now (out .entry)) (now (out .exit)) ⌝ }
 {
-    let mut sets = [0u64; 256];
-    let mut found = [0u16; 4096];
-    let a = answers::list_answers(post, label, q, 1000000, &mut sets, &mut found);
+    let a = answers::list_answers(post, label, q, 1000000, sets, found);
     match a {
         ListAnswer::Listed(e, tuples, used) => {
             let k = q.head_count;
-            let bytes = put_listing(out, sentence, &found, k, e, tuples, used);
+            let bytes = put_listing(out, sentence, found, k, e, tuples, used);
             SentenceStep::Next(bytes, end)
         }
         ListAnswer::Refused(r) => {
@@ -68,25 +68,38 @@ fn list_sentence(
     }
 }
 
-// The next sentence of the text that is left. Any text, number, query and list of names.
+// The next sentence of the text that is left. Any text, number, query and list of names. The columns, the sets and the rows
+// found are room to work in, lent so that no sentence pays for clearing them: what they held before is all one.
 pub(crate) fn do_sentence(
     text: &[u8],
     sentence: u64,
     q: Query,
     names: &[u8],
+    post: &mut [u16],
+    label: &mut [u16],
+    sets: &mut [u64; 256],
+    found: &mut [u16; 4096],
     out: &mut [u8; 262144],
 ) -> SentenceStep
+    requires { ⌜ (length (now post) ≡ 1024) × (length (now label) ≡ 1024) ⌝ }
     ensures { λ a. ⌜ Does sentence (asked q) (now (names .entry)) (now (text .entry)) a (now (out .entry)) (now (out .exit)) ⌝ }
 {
     if brackets::is_blank(text) {
         return SentenceStep::Last(0);
     }
-    let mut post = [0u16; 1024];
-    let mut label = [0u16; 1024];
-    let a = pouchmeadow::read_sentence(text, names, &mut post, &mut label);
+    let a = pouchmeadow::read_sentence(text, names, post, label);
     match a {
         SentenceAnswer::Read(rows, end) => {
-            list_sentence(&post[..rows], &label[..rows], end, sentence, q, out)
+            list_sentence(
+                &post[..rows],
+                &label[..rows],
+                end,
+                sentence,
+                q,
+                sets,
+                found,
+                out,
+            )
         }
         SentenceAnswer::Refused(r) => {
             let bytes = put_refusal(out, sentence, r);

@@ -1,4 +1,4 @@
-use mathlib.Core.Path.{ap}
+use mathlib.Core.Path.{_≡_, ap, sym, _∙_}
 use Prim.Native.Nat.{suc, _+_, _≤_}
 use native.Mathlib.Omega.{arith}
 use borrow.Author.Needs.{needs}
@@ -14,18 +14,26 @@ use Rattle.search.proofs.print.Reads as print-reads
 use Rattle.search.proofs.step.do_sentence.Reads as do-sentence-reads
 
 abbrev Inv-loop : tie.InvT-loop
-Inv-loop text q names out₀ left₀ sentence₀ out left sentence = sentence + length left ≤ suc (length text)
+Inv-loop text q names post₀ label₀ sets₀ found₀ out₀ left₀ sentence₀ post label sets found out left sentence = (sentence + length left ≤ suc (length text)) × (length post ≡ 1024) × (length label ≡ 1024)
 
 abbrev μ-loop : tie.MeasureT-loop
-μ-loop text q names out₀ left₀ sentence₀ out left sentence = length left
+μ-loop text q names post₀ label₀ sets₀ found₀ out₀ left₀ sentence₀ post label sets found out left sentence = length left
 
 -- src/main.rt:43:5
 loop-holds : tie.Need-loop-holds Inv-loop μ-loop
-loop-holds c = omega arith
+loop-holds c = (omega arith, search needs, search needs)
+
+-- src/main.rt:58:13
+slice-aggregate-do-sentence : tie.Need-slice-aggregate-do-sentence Inv-loop μ-loop
+slice-aggregate-do-sentence c = sym (c .before .loop .inv .1)
+
+-- src/main.rt:59:13
+slice-aggregate-do-sentence-2 : tie.Need-slice-aggregate-do-sentence-2 Inv-loop μ-loop
+slice-aggregate-do-sentence-2 c = sym (c .before .before .loop .inv .2)
 
 -- src/main.rt:44:13
 do-sentence-requires : tie.Need-do-sentence-requires Inv-loop μ-loop
-do-sentence-requires c κs = search needs
+do-sentence-requires c κs = let i = c .before .before .before .before .before .loop .inv in (i .1, i .2)
 
 -- src/main.rt:46:32
 enum-known-s : tie.Need-enum-known-s Inv-loop μ-loop
@@ -54,17 +62,17 @@ rest-requires c κs = search needs
 -- src/main.rt:54:17
 add-sentence : tie.Need-add-sentence Inv-loop μ-loop
 unfolding sentenceRest
-add-sentence c = let l = c .before .before .before .before .before .before .before .before .loop in let d = c .before .before .before .before .before .before .do-sentence in let r = ap length (c .rest .ensures) in let n = next-shorter _ _ _ _ _ _ _ _ _ (d .ensures) (c .before .before .before .before .s2 .given .1) in omega (arith, l .inv, n, c .before .before .before .before .before .before .before .before .before .before .before .good)
+add-sentence c = let l = c .before .before .before .before .before .before .before .before .before .before .before .before .before .before .loop in let d = c .before .before .before .before .before .before .before .before .do-sentence in let r = ap length (c .rest .ensures) in let n = next-shorter _ _ _ _ _ _ _ _ _ (d .ensures) (c .before .before .before .before .s2 .given .1) in omega (arith, l .inv .0, n, c .before .before .before .before .before .before .before .before .before .before .before .before .before .before .before .before .before .good)
 
 -- src/main.rt:43:5
 loop-less : tie.Need-loop-less Inv-loop μ-loop
 unfolding sentenceRest
-loop-less c = let l = c .before .before .before .before .before .before .before .before .loop in let d = c .before .before .before .before .before .before .do-sentence in let r = ap length (c .rest .ensures) in let n = next-shorter _ _ _ _ _ _ _ _ _ (d .ensures) (c .before .before .before .before .s2 .given .1) in omega (arith, r, n)
+loop-less c = let l = c .before .before .before .before .before .before .before .before .before .before .before .before .before .before .loop in let d = c .before .before .before .before .before .before .before .before .do-sentence in let r = ap length (c .rest .ensures) in let n = next-shorter _ _ _ _ _ _ _ _ _ (d .ensures) (c .before .before .before .before .s2 .given .1) in omega (arith, r, n)
 
 -- src/main.rt:43:5
 loop-again : tie.Need-loop-again Inv-loop μ-loop
 unfolding sentenceRest
-loop-again c = let l = c .before .before .before .before .before .before .before .before .loop in let d = c .before .before .before .before .before .before .do-sentence in let r = ap length (c .rest .ensures) in let n = next-shorter _ _ _ _ _ _ _ _ _ (d .ensures) (c .before .before .before .before .s2 .given .1) in omega (arith, l .inv, r, n)
+loop-again c = let l = c .before .before .before .before .before .before .before .before .before .before .before .before .before .before .loop in let d = c .before .before .before .before .before .before .before .before .do-sentence in let r = ap length (c .rest .ensures) in let n = next-shorter _ _ _ _ _ _ _ _ _ (d .ensures) (c .before .before .before .before .s2 .given .1) in (omega (arith, l .inv .0, r, n), d .kept .1 .1 .1 .1 .0 ∙ l .inv .1, d .kept .1 .1 .1 .1 .1 .0 ∙ l .inv .2)
 
 pub print-sentences-spec : {M : Type 1} → statement M
 print-sentences-spec =
@@ -73,6 +81,8 @@ print-sentences-spec =
     Inv-loop
     μ-loop
     loop-holds
+    slice-aggregate-do-sentence
+    slice-aggregate-do-sentence-2
     do-sentence-requires
     enum-known-s
     print-requires
