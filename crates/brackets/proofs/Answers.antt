@@ -6,7 +6,7 @@ use Prim.Native.Nat.{ℕ, _+_, _-_, _*_, _≤_, _<_}
 use native.Mathlib.Nat.{zero-add}
 use native.Mathlib.Omega.{arith}
 use lib.ListN.{length, getD, take, drop}
-use lib.Seq.{sets, sets-eq, take-at, paste}
+use lib.Seq.{sets, sets-eq, length-sets, take-at, paste}
 use lib.Dec.{leb}
 use borrow.Author.Tests.{le-leb, lt-leb}
 use Rattle.meaning.specs.Tests.{_&_}
@@ -139,6 +139,9 @@ module _ (s list : List ℕ) (r : SentenceAnswer) (p p₁ l l₁ : List ℕ) (lp
 
   pub whole-few : (next rows : ℕ) → r ≡ Read rows next → rows ≤ 1024
   whole-few next rows d = was next rows d .few
+
+  pub whole-sizes : (next rows : ℕ) → r ≡ Read rows next → (length p₁ ≡ 1024) × (length l₁ ≡ 1024)
+  whole-sizes next rows d = let w = was next rows d in (ap length (w .posts-are) ∙ (length-sets p 0 (posts 0 (treeOf (w .x))) ∙ lp), ap length (w .labels-are) ∙ (length-sets l 0 (labels (labelNumber list) (treeOf (w .x))) ∙ ll))
 
   module _ (N : tooMany list ≡ false) (post lab : List ℕ) where
     pub whole-read : (next rows : ℕ) → r ≡ Read rows next → (r′ : SentenceAnswer) (post′ lab′ : List ℕ) → HandedOver rows next p₁ l₁ r′ post post′ lab lab′ → SentenceRead s list post lab r′ post′ lab′

@@ -21,10 +21,10 @@ fn tree(
     rows: usize,
     names: &[u8],
     ends: &[usize],
-    post: &mut [u16],
-    label: &mut [u16],
+    post: &mut [u16; 1024],
+    label: &mut [u16; 1024],
 ) -> SentenceAnswer
-    requires { ⌜ (1 ≤ at) × (at ≤ length (now text)) × (levels ≤ 64) × (64 ≤ levels + rows) × (rows ≤ 1024) × (length (now post) ≡ 1024) × (length (now label) ≡ 1024) × Marked (now names) 0 (now ends) × (length (now ends) ≤ 32) ⌝ }
+    requires { ⌜ (1 ≤ at) × (at ≤ length (now text)) × (levels ≤ 64) × (64 ≤ levels + rows) × (rows ≤ 1024) × Marked (now names) 0 (now ends) × (length (now ends) ≤ 32) ⌝ }
     ensures { λ r. ⌜ MeetsTree (now (text .entry)) (now (names .entry)) at levels rows r (now (post .entry)) (now (post .exit)) (now (label .entry)) (now (label .exit)) ⌝ }
 {
     if levels == 0 {
@@ -55,7 +55,7 @@ fn tree(
     }
 }
 
-// A body: one word, or one or more trees; and the white space behind it.
+// A body: one word, or one or more trees, each from its opening parenthesis; and the white space behind it.
 fn body(
     text: &[u8],
     at: usize,
@@ -63,10 +63,10 @@ fn body(
     rows: usize,
     names: &[u8],
     ends: &[usize],
-    post: &mut [u16],
-    label: &mut [u16],
+    post: &mut [u16; 1024],
+    label: &mut [u16; 1024],
 ) -> SentenceAnswer
-    requires { ⌜ (at ≤ length (now text)) × (levels ≤ 64) × (64 ≤ levels + rows) × (rows ≤ 1024) × (length (now post) ≡ 1024) × (length (now label) ≡ 1024) × Marked (now names) 0 (now ends) × (length (now ends) ≤ 32) ⌝ }
+    requires { ⌜ (at ≤ length (now text)) × (levels ≤ 64) × (64 ≤ levels + rows) × (rows ≤ 1024) × Marked (now names) 0 (now ends) × (length (now ends) ≤ 32) ⌝ }
     ensures { λ r. ⌜ MeetsBody (now (text .entry)) (now (names .entry)) at levels rows r (now (post .entry)) (now (post .exit)) (now (label .entry)) (now (label .exit)) ⌝ }
 {
     if peek(text, at) != b'(' {
@@ -77,16 +77,23 @@ fn body(
         let y = skip_white(text, e);
         return SentenceAnswer::Read(rows, y);
     }
-    let r = tree(text, at + 1, levels, rows, names, ends, post, label);
-    match r {
-        SentenceAnswer::Read(after, next) => {
-            let y = skip_white(text, next);
-            if peek(text, y) != b'(' {
-                return SentenceAnswer::Read(after, y);
+    let mut here = at;
+    let mut count = rows;
+    loop {
+        let r = tree(text, here + 1, levels, count, names, ends, post, label);
+        match r {
+            SentenceAnswer::Read(after, next) => {
+                let y = skip_white(text, next);
+                if peek(text, y) != b'(' {
+                    return SentenceAnswer::Read(after, y);
+                }
+                here = y;
+                count = after;
             }
-            body(text, y, levels, after, names, ends, post, label)
+            SentenceAnswer::Refused(why) => {
+                return SentenceAnswer::Refused(why);
+            }
         }
-        SentenceAnswer::Refused(why) => SentenceAnswer::Refused(why),
     }
 }
 
@@ -95,10 +102,10 @@ pub(crate) fn sentence(
     text: &[u8],
     names: &[u8],
     ends: &[usize],
-    post: &mut [u16],
-    label: &mut [u16],
+    post: &mut [u16; 1024],
+    label: &mut [u16; 1024],
 ) -> SentenceAnswer
-    requires { ⌜ (length (now post) ≡ 1024) × (length (now label) ≡ 1024) × Marked (now names) 0 (now ends) × (length (now ends) ≤ 32) ⌝ }
+    requires { ⌜ Marked (now names) 0 (now ends) × (length (now ends) ≤ 32) ⌝ }
     ensures { λ r. ⌜ MeetsWhole (now (text .entry)) (now (names .entry)) r (now (post .entry)) (now (post .exit)) (now (label .entry)) (now (label .exit)) ⌝ }
 {
     let a = skip_white(text, 0);

@@ -5,7 +5,7 @@ use native.Mathlib.Omega.{arith}
 use lib.ListN.{length-replicate}
 use Rattle.brackets.specs.Texts.{take-few}
 use Rattle.brackets.proofs.Lists.{few-names, many-names}
-use Rattle.brackets.proofs.Answers.{too-many, whole-few, whole-read, whole-not}
+use Rattle.brackets.proofs.Answers.{too-many, whole-few, whole-sizes, whole-read, whole-not}
 use borrow.Author.Needs.{needs}
 use Rattle.brackets.proofs.read_sentence.Statement.{statement}
 use Rattle.brackets.proofs.read_sentence.Tie as tie
@@ -35,17 +35,9 @@ array-share-prefix-ends c = search needs
 slice-aggregate-sentence : tie.Need-slice-aggregate-sentence
 slice-aggregate-sentence c = let e1 = c .before in let f = e1 .before .before in sym (take-few _ _ (omega (arith, e1 .if1 .left, f .find-ends .kept .1 .0, length-replicate {A = ℕ} 32 0)))
 
--- src/lib.rt:68:54
-slice-aggregate-sentence-2 : tie.Need-slice-aggregate-sentence-2
-slice-aggregate-sentence-2 c = search needs
-
--- src/lib.rt:68:66
-slice-aggregate-sentence-3 : tie.Need-slice-aggregate-sentence-3
-slice-aggregate-sentence-3 c = search needs
-
 -- src/lib.rt:68:9
 sentence-requires : tie.Need-sentence-requires
-sentence-requires c κs = let e1 = c .before .before .before in let f = e1 .before .before in (refl, refl, f .find-ends .ensures .few (e1 .if1 .left), omega (arith, e1 .if1 .left, take-few (f .find-ends .result) (f .find-ends .last .1 .0) (omega (arith, e1 .if1 .left, f .find-ends .kept .1 .0, length-replicate {A = ℕ} 32 0))))
+sentence-requires c κs = let e1 = c .before .before .before in let f = e1 .before .before in (f .find-ends .ensures .few (e1 .if1 .left), omega (arith, e1 .if1 .left, take-few (f .find-ends .result) (f .find-ends .last .1 .0) (omega (arith, e1 .if1 .left, f .find-ends .kept .1 .0, length-replicate {A = ℕ} 32 0))))
 
 -- src/lib.rt:70:30
 enum-known-r : tie.Need-enum-known-r
@@ -53,15 +45,15 @@ enum-known-r c = search needs
 
 -- src/lib.rt:70:65
 slice-aggregate-hand-over : tie.Need-slice-aggregate-hand-over
-slice-aggregate-hand-over c = search needs
+slice-aggregate-hand-over c = let k = c .before .before in let b = k .before .before in let e1 = b .before .before .before .before in let f = e1 .before .before in let a = f .before .before .before .before .before .before .args in sym (whole-sizes (a .text .now) (a .names .now) (b .sentence .result) _ _ _ _ (length-replicate {A = ℕ} 1024 0) (length-replicate {A = ℕ} 1024 0) (b .sentence .ensures) (k .r .given .0 .1 .0) (k .r .given .0 .0) (k .r .given .1) .0)
 
 -- src/lib.rt:70:73
 slice-aggregate-hand-over-2 : tie.Need-slice-aggregate-hand-over-2
-slice-aggregate-hand-over-2 c = search needs
+slice-aggregate-hand-over-2 c = let k = c .before .before .before in let b = k .before .before in let e1 = b .before .before .before .before in let f = e1 .before .before in let a = f .before .before .before .before .before .before .args in sym (whole-sizes (a .text .now) (a .names .now) (b .sentence .result) _ _ _ _ (length-replicate {A = ℕ} 1024 0) (length-replicate {A = ℕ} 1024 0) (b .sentence .ensures) (k .r .given .0 .1 .0) (k .r .given .0 .0) (k .r .given .1) .1)
 
 -- src/lib.rt:70:44
 hand-over-requires : tie.Need-hand-over-requires
-hand-over-requires c κs = let k = c .before .before .before .before .before in let b = k .before .before .before .before in let e1 = b .before .before .before .before in let f = e1 .before .before in let a = f .before .before .before .before .before .before .args in let w = whole-few (a .text .now) (a .names .now) (b .sentence .result) _ _ _ _ (length-replicate {A = ℕ} 1024 0) (length-replicate {A = ℕ} 1024 0) (b .sentence .ensures) (k .r .given .0 .1 .0) (k .r .given .0 .0) (k .r .given .1) in let z = length-replicate {A = ℕ} 1024 0 in (omega (arith, w, b .sentence .kept .1 .1 .1 .0, z), omega (arith, w, b .sentence .kept .1 .1 .1 .1 .0, z))
+hand-over-requires c κs = let k = c .before .before .before .before .before in let b = k .before .before in let e1 = b .before .before .before .before in let f = e1 .before .before in let a = f .before .before .before .before .before .before .args in let w = whole-few (a .text .now) (a .names .now) (b .sentence .result) _ _ _ _ (length-replicate {A = ℕ} 1024 0) (length-replicate {A = ℕ} 1024 0) (b .sentence .ensures) (k .r .given .0 .1 .0) (k .r .given .0 .0) (k .r .given .1) in let z = whole-sizes (a .text .now) (a .names .now) (b .sentence .result) _ _ _ _ (length-replicate {A = ℕ} 1024 0) (length-replicate {A = ℕ} 1024 0) (b .sentence .ensures) (k .r .given .0 .1 .0) (k .r .given .0 .0) (k .r .given .1) in (omega (arith, w, z .0), omega (arith, w, z .1))
 
 -- src/lib.rt:71:33
 enum-known-r-2 : tie.Need-enum-known-r-2
@@ -77,11 +69,11 @@ same-length-2 c = search needs
 
 -- src/lib.rt:53:1
 returns-2 : tie.Need-returns-2
-returns-2 c = let h = c .before .before .before .before in let k = h .before .before .before .before .before .before in let b = k .before .before .before .before in let e1 = b .before .before .before .before in let f = e1 .before .before in let a = f .before .before .before .before .before .before .args in whole-read (a .text .now) (a .names .now) (b .sentence .result) _ _ _ _ (length-replicate {A = ℕ} 1024 0) (length-replicate {A = ℕ} 1024 0) (b .sentence .ensures) (few-names (a .names .now) (f .find-ends .result) _ (f .find-ends .ensures) (e1 .if1 .left)) (a .post .now) (a .label .now) (k .r .given .0 .1 .0) (k .r .given .0 .0) (k .r .given .1) (h .hand-over .result) _ _ (h .hand-over .ensures)
+returns-2 c = let h = c .before .before .before .before in let k = h .before .before .before .before .before .before in let b = k .before .before in let e1 = b .before .before .before .before in let f = e1 .before .before in let a = f .before .before .before .before .before .before .args in whole-read (a .text .now) (a .names .now) (b .sentence .result) _ _ _ _ (length-replicate {A = ℕ} 1024 0) (length-replicate {A = ℕ} 1024 0) (b .sentence .ensures) (few-names (a .names .now) (f .find-ends .result) _ (f .find-ends .ensures) (e1 .if1 .left)) (a .post .now) (a .label .now) (k .r .given .0 .1 .0) (k .r .given .0 .0) (k .r .given .1) (h .hand-over .result) _ _ (h .hand-over .ensures)
 
 -- src/lib.rt:53:1
 returns-3 : tie.Need-returns-3
-returns-3 c = let k = c .before in let b = k .before .before .before .before in let e1 = b .before .before .before .before in let f = e1 .before .before in let a = f .before .before .before .before .before .before .args in whole-not (a .text .now) (a .names .now) (b .sentence .result) _ _ _ _ (length-replicate {A = ℕ} 1024 0) (length-replicate {A = ℕ} 1024 0) (b .sentence .ensures) (few-names (a .names .now) (f .find-ends .result) _ (f .find-ends .ensures) (e1 .if1 .left)) (a .post .now) (a .label .now) (k .r2 .given .0 .0) (k .r2 .given .1)
+returns-3 c = let k = c .before in let b = k .before .before in let e1 = b .before .before .before .before in let f = e1 .before .before in let a = f .before .before .before .before .before .before .args in whole-not (a .text .now) (a .names .now) (b .sentence .result) _ _ _ _ (length-replicate {A = ℕ} 1024 0) (length-replicate {A = ℕ} 1024 0) (b .sentence .ensures) (few-names (a .names .now) (f .find-ends .result) _ (f .find-ends .ensures) (e1 .if1 .left)) (a .post .now) (a .label .now) (k .r2 .given .0 .0) (k .r2 .given .1)
 
 pub read-sentence-spec : {M : Type 1} → statement M
 read-sentence-spec =
@@ -92,8 +84,6 @@ read-sentence-spec =
     returns
     array-share-prefix-ends
     slice-aggregate-sentence
-    slice-aggregate-sentence-2
-    slice-aggregate-sentence-3
     sentence-requires
     enum-known-r
     slice-aggregate-hand-over
