@@ -10,8 +10,8 @@ use Rattle.meaning.specs.Tests.{Is}
 use Rattle.meaning.specs.Table.{post, below, child, level}
 use Rattle.meaning.specs.Axes.{key}
 use Rattle.theory.specs.Tests.{not-so, below-suc, count-none, count-most}
-use Rattle.theory.specs.Trees.{Tree, below-is, below-in, level-child, nearest-child}
-use Rattle.table.specs.Rows.{Stays, Open, Opened, Filled}
+use Rattle.theory.specs.Trees.{Tree, below-is, below-in, below-between, child-is, level-child, nearest-child}
+use Rattle.table.specs.Rows.{Filled, LevelOf}
 use Rattle.table.proofs.Stack.{compare, set-new}
 
 -- ---- columns that are filled
@@ -47,81 +47,52 @@ module _ (from : ℕ) (Fits : ℕ → ℕ → Type 0) where
       (λ m. ⊎-elim (λ k. one r _ _ k (X .filled r m k) (Y .filled r m k)) (λ k. X .others r (inr k) ∙ sym (Y .others r (inr k))) (compare r n))
       (compare r from))
 
--- ---- parents and levels
+-- the first place was written before, the others then
+pub filled-first : (Fits : ℕ → ℕ → Type 0) (n v : ℕ) (before after : List ℕ) → 0 < n → Fits 0 (getD after 0 0) → Filled 1 n Fits (set before 0 v) after → Filled 0 n Fits before after
+filled-first Fits n v before after l h F = record {
+  size = F .size ∙ length-set before 0 v;
+  filled = λ r u w. ⊎-elim (λ m. F .filled r m w) (λ m. let e : r ≡ 0 = omega arith in subst (λ (k : ℕ). Fits k (getD after k 0)) (sym e) h) (compare 0 r);
+  others = λ r u. ⊎-elim (λ m. absurd (omega arith)) (λ m. F .others r (inr m) ∙ getD-set-other before 0 r v 0 (λ e. omega arith)) u;
+}
 
-module _ (t : List ℕ) (T : Tree t) (stack : List ℕ) (i count stay : ℕ) (O : Open t i stack count) (S : Stays t stack count (post t i) stay) where
-  module _ (low : 0 < i) (high : i < length t) where
-    pub root-stays : 0 < stay
-    root-stays = go (O .each 0 low)
-      where
-        go : ((b : ℕ) × (0 < b) × (b < i) × (post t 0 < post t b)) ⊎ ((k : ℕ) × (k < count) × (getD stack k 0 ≡ 0)) → 0 < stay
-        go (inl w) = absurd (omega (arith, T .root, T .below (w .0) (omega (arith, w .2, high)), w .3))
-        go (inr w) =
-            ⊎-elim (λ u. omega arith)
-            (λ u. let f : post t 0 < post t i = rw (w .2) at (S .closes (w .0) u (w .1)) in absurd (omega (arith, T .root, T .below i high)))
-            (compare (w .0) stay)
+-- ---- the parent of row i, sought among the rows before it
 
-    -- the last row that stays open is the parent
-    pub parent-is : Is (child t (getD stack (stay - 1) 0) i)
-    parent-is = nearest-child t T p i high (below-in t p i before above) (λ z l m h. near z l m (below-is t z i h .1) (O .each z m))
-      where
-        p : ℕ
-        p = getD stack (stay - 1) 0
+-- the rows behind p and before i have smaller post numbers than row i
+abbrev pub Passed : List ℕ → ℕ → ℕ → Type 0
+Passed t i p = (z : ℕ) → p < z → z < i → post t z < post t i
 
-        lp : stay - 1 < count
-        lp = omega (arith, S .most, root-stays)
+module _ (t : List ℕ) (T : Tree t) (i p : ℕ) (low : p < i) (high : i < length t) (N : Passed t i p) where
+  -- no post number is larger than that of row 0
+  pub not-root : post t p < post t i → 0 < p
+  not-root h = ⊎-elim (λ m. m) (λ m. let e : p ≡ 0 = omega arith in absurd (omega (arith, T .root, T .below i high, ap (post t) e))) (compare 0 p)
 
-        before : p < i
-        before = O .rows (stay - 1) lp
+  -- nor do the rows between p and its parent come into question: their post numbers are smaller than that of p
+  pub passed-on : (v : ℕ) → Is (child t v p) → post t p < post t i → Passed t i v
+  passed-on v C h z l m = ⊎-elim (λ a. ⊎-elim (λ b. inner a b) (λ b. omega arith) (compare (post t p) (post t z))) (λ a. outer (compare p z) a) (compare z p)
+    where
+      inner : z < p → post t p < post t z → post t z < post t i
+      inner a b = absurd (child-is t v p C .1 z (omega arith) (below-between t T v z p l a (omega arith) (child-is t v p C .0)) (below-in t z p a b))
 
-        above : post t i < post t p
-        above =
-            let ne : post t p ≡ post t i → ⊥ = T .once p i before high in
-            omega (arith, S .leaves (stay - 1) (omega (arith, root-stays)), ne)
+      outer : (p < z) ⊎ (z ≤ p) → p ≤ z → post t z < post t i
+      outer (inl b) a = N z b m
+      outer (inr b) a = let e : z ≡ p = omega arith in rw e h
 
-        near : (z : ℕ) → p < z → z < i → post t i < post t z → ((b : ℕ) × (z < b) × (b < i) × (post t z < post t b)) ⊎ ((k : ℕ) × (k < count) × (getD stack k 0 ≡ z)) → ⊥
-        near z l m h (inl w) = T .nested z (w .0) i (w .1) (w .2) high h (w .3)
-        near z l m h (inr w) =
-            ⊎-elim
-            (λ u. ⊎-elim
-            (λ d. omega (arith, O .rising (w .0) (stay - 1) d lp, w .2))
-            (λ d. let e : w .0 ≡ stay - 1 = omega arith in let f : p ≡ z = ap (λ (k : ℕ). getD stack k 0) (sym e) ∙ w .2 in omega arith)
-            (compare (w .0) (stay - 1)))
-            (λ u. let f : post t z < post t i = rw (w .2) at (S .closes (w .0) u (w .1)) in omega arith)
-            (compare (w .0) stay)
+  pub parent-found : post t i ≤ post t p → Is (child t p i)
+  parent-found h =
+      let ne : post t p ≡ post t i → ⊥ = T .once p i low high in
+      nearest-child t T p i high (below-in t p i low (omega (arith, h, ne))) (λ z l m b. omega (arith, N z l m, below-is t z i b .1))
 
-    pub opened-parent : (after : List ℕ) → Opened t i stack count stay after → Is (child t (getD after (stay - 1) 0) i)
-    opened-parent after W = subst (λ (p : ℕ). Is (child t p i)) (sym (W .above (stay - 1) (omega (arith, root-stays)))) parent-is
-
--- a row's level is its place in the stack
-abbrev pub Leveled : List ℕ → List ℕ → ℕ → Type 0
-Leveled t stack count = (k : ℕ) → k < count → level t (getD stack k 0) ≡ k
+-- ---- levels
 
 -- row 0 has no ancestors
 pub level-root : (t : List ℕ) → level t 0 ≡ 0
 unfolding level
 level-root t = count-none (length t) (λ z. below t z 0) (λ k l. not-so _ (λ h. omega (arith, below-is t k 0 h .0)))
 
-module _ (t : List ℕ) (T : Tree t) (stack : List ℕ) (i count stay : ℕ) (O : Open t i stack count) (S : Stays t stack count (post t i) stay)
-    (L : Leveled t stack count) (high : i < length t) where
-  pub level-is : stay ≡ level t i
-  level-is = ⊎-elim inner root (compare 0 i)
-    where
-      root : i ≤ 0 → stay ≡ level t i
-      root h = let e : i ≡ 0 = omega arith in omega (arith, ap (level t) e, level-root t, O .most, S .most)
-
-      inner : 0 < i → stay ≡ level t i
-      inner h =
-          let s = root-stays t T stack i count stay O S h high in
-          let k : stay - 1 < count = omega (arith, S .most) in
-          omega (arith, level-child t T (getD stack (stay - 1) 0) i (omega (arith, O .rows (stay - 1) k)) high (parent-is t T stack i count stay O S h high), L (stay - 1) k)
-
-pub leveled-more : (t stack after : List ℕ) (i count stay : ℕ) → Opened t i stack count stay after → Leveled t stack count → stay ≡ level t i → Leveled t after (stay + 1)
-leveled-more t stack after i count stay W L e k l =
-    ⊎-elim
-    (λ m. ap (level t) (W .above k m) ∙ L k (omega (arith, W .stays .most)))
-    (λ m. ap (level t) (ap (λ (j : ℕ). getD after j 0) m ∙ W .self) ∙ (sym e ∙ sym m))
-    (below-suc {k = k} {n = stay} (omega arith))
+-- the levels of the rows before row n, with row 0
+pub level-at : (t : List ℕ) (n : ℕ) (before after : List ℕ) → Filled 1 n (LevelOf t) before after → getD after 0 0 ≡ level t 0 → (p : ℕ) → p < n → getD after p 0 ≡ level t p
+level-at t n before after F z p l =
+    ⊎-elim (λ m. F .filled p m l) (λ m. let e : p ≡ 0 = omega arith in ap (λ (k : ℕ). getD after k 0) e ∙ (z ∙ ap (level t) (sym e))) (compare 0 p)
 
 -- ---- keys
 

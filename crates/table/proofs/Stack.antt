@@ -11,7 +11,7 @@ use lib.Seq.{getD-set-same, getD-set-other}
 use borrow.Author.Tests.{ltb-true, ltb-false}
 use Rattle.meaning.specs.Table.{post}
 use Rattle.theory.specs.Tests.{below-suc}
-use Rattle.table.specs.Rows.{Stays, Open, Opened}
+use Rattle.table.specs.Rows.{Stays, Open}
 
 -- the test of two numbers, both ways
 pub compare : (a b : ℕ) → (a < b) ⊎ (b ≤ a)
@@ -93,23 +93,3 @@ module _ (t stack : List ℕ) (i count stay : ℕ) (O : Open t i stack count) (S
             (λ u. inr (w .0, omega arith, old (w .0) u ∙ w .2))
             (λ u. inl (i, m, omega arith, rw (w .2) at (S .closes (w .0) u (w .1))))
             (compare (w .0) stay)
-
--- row 0 is open
-pub open-root : (t stack : List ℕ) → getD stack 0 0 ≡ 0 → Open t 1 stack 1
-open-root t stack e = record {
-  most = omega arith;
-  rows = λ k l. let z : k ≡ 0 = omega arith in rw z (omega (arith, e));
-  rising = λ j k m l. absurd (omega arith);
-  falling = λ j k m l. absurd (omega arith);
-  each = λ a l. inr (0, omega arith, omega (arith, e));
-}
-
-module _ (t stack : List ℕ) (i count stay : ℕ) (O : Open t i stack count) (S : Stays t stack count (post t i) stay) (room : stay < length stack) where
-  pub opened : Opened t i stack count stay (set stack stay i)
-  opened = record {
-    size = length-set stack stay i;
-    stays = S;
-    above = λ k l. getD-set-other stack stay k i 0 (λ e. omega arith);
-    self = getD-set-same stack stay i 0 room;
-    rows = open-more t stack i count stay O S room;
-  }

@@ -34,14 +34,6 @@ pub record Open (t : List ℕ) (i : ℕ) (stack : List ℕ) (count : ℕ) : Type
   pub falling : (j k : ℕ) → j < k → k < count → post t (getD stack k 0) ≤ post t (getD stack j 0)
   pub each : (a : ℕ) → a < i → ((b : ℕ) × (a < b) × (b < i) × (post t a < post t b)) ⊎ ((k : ℕ) × (k < count) × (getD stack k 0 ≡ a))
 
--- row i is opened: what it closes, the rows that stay, and itself behind them
-pub record Opened (t : List ℕ) (i : ℕ) (stack : List ℕ) (count stay : ℕ) (after : List ℕ) : Type 0 where
-  pub size : length after ≡ length stack
-  pub stays : Stays t stack count (post t i) stay
-  pub above : (k : ℕ) → k < stay → getD after k 0 ≡ getD stack k 0
-  pub self : getD after stay 0 ≡ i
-  pub rows : Open t (i + 1) after (stay + 1)
-
 -- a column in which the places `from` to n - 1 hold for each row a number that fits it, and the others are as before
 pub record Filled (from n : ℕ) (Fits : ℕ → ℕ → Type 0) (before after : List ℕ) : Type 0 where
   pub size : length after ≡ length before

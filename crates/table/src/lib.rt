@@ -14,7 +14,7 @@ ghost use Rattle.meaning.specs.Table as tree;
 ghost use Rattle.meaning.specs.Entries.{tableAnswer};
 ghost use Rattle.meaning.specs.Axes.{axisHolds, key};
 ghost use Rattle.meaning.specs.Tests.{_or_};
-ghost use Rattle.table.specs.Rows.{Accepted, isOnce, Stays, Open, Opened, Filled, LevelOf, ParentOf, KeyOf, HasLevels, HasParents, isParent, isLater, isNext};
+ghost use Rattle.table.specs.Rows.{Accepted, isOnce, Stays, Filled, LevelOf, ParentOf, KeyOf, HasLevels, HasParents, isParent, isLater, isNext};
 
 // A number of a column as a number of rows.
 fn wide(x: u16) -> usize
@@ -134,44 +134,31 @@ fn last_closed(post: &[u16], stack: &[u16; 1024], count: usize, stay: usize, clo
     closed
 }
 
-// Row `row` closes the open rows with smaller post numbers and is open itself: how many stay open above it.
-fn open_row(post: &[u16], stack: &mut [u16; 1024], count: usize, row: usize) -> usize
-    requires { ⌜ (length (now post) ≤ 1024) × (row < length (now post)) × Open (now post) row (now stack) count × (length (now stack) ≡ 1024) ⌝ }
-    ensures { λ r. ⌜ Opened (now (post .entry)) row (now (stack .entry)) count r (now (stack .exit)) ⌝ }
+// A row's parent: of the row before it and the rows above that one, the nearest with a larger post number. The parents of the
+// rows before are known.
+fn parent_of(post: &[u16], parents: &[u16], row: usize) -> usize
+    requires { ⌜ Accepted (now post) × (0 < row) × (row < length (now post)) × (row ≤ length (now parents)) × ((r : ℕ) → 0 < r → r < row → ParentOf (now post) r (getD (now parents) r 0)) ⌝ }
+    ensures { λ p. ⌜ (p < row) × ParentOf (now (post .entry)) row p ⌝ }
 {
-    let stay = staying(post, stack, count, post[row]);
-    stack[stay] = row as u16;
-    stay
-}
-
-// A row's level is the number of rows that stay open above it.
-pub fn fill_levels(post: &[u16], levels: &mut [u16])
-    requires { ⌜ Accepted (now post) × (length (now post) ≤ length (now levels)) ⌝ }
-    ensures { λ _. ⌜ Filled 0 (length (now (post .entry))) (LevelOf (now (post .entry))) (now (levels .entry)) (now (levels .exit)) ⌝ }
-{
-    let mut stack = [0u16; 1024];
-    let mut count: usize = 0;
-    let mut row: usize = 0;
-    while row < post.len() {
-        let stay = open_row(post, &mut stack, count, row);
-        levels[row] = stay as u16;
-        count = stay + 1;
-        row += 1;
+    let x = post[row];
+    let mut p = row - 1;
+    while post[p] < x {
+        p = wide(parents[p]);
     }
+    p
 }
 
-// A row's parent is the last row that stays open above it. Row 0 has none; its place stays as it was.
-pub fn fill_parents(post: &[u16], parents: &mut [u16])
-    requires { ⌜ Accepted (now post) × (length (now post) ≤ length (now parents)) ⌝ }
-    ensures { λ _. ⌜ Filled 1 (length (now (post .entry))) (ParentOf (now (post .entry))) (now (parents .entry)) (now (parents .exit)) ⌝ }
+// Parents and levels: a row's level is one more than its parent's. Row 0 has no parent; its place stays as it was.
+pub fn fill_columns(post: &[u16], parents: &mut [u16], levels: &mut [u16])
+    requires { ⌜ Accepted (now post) × (length (now post) ≤ length (now parents)) × (length (now post) ≤ length (now levels)) ⌝ }
+    ensures { λ _. ⌜ Filled 1 (length (now (post .entry))) (ParentOf (now (post .entry))) (now (parents .entry)) (now (parents .exit)) × Filled 0 (length (now (post .entry))) (LevelOf (now (post .entry))) (now (levels .entry)) (now (levels .exit)) ⌝ }
 {
-    let mut stack = [0u16; 1024];
-    let mut count: usize = 1;
+    levels[0] = 0;
     let mut row: usize = 1;
     while row < post.len() {
-        let stay = open_row(post, &mut stack, count, row);
-        parents[row] = stack[stay - 1];
-        count = stay + 1;
+        let p = parent_of(post, parents, row);
+        parents[row] = p as u16;
+        levels[row] = levels[p] + 1;
         row += 1;
     }
 }

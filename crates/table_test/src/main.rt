@@ -116,8 +116,9 @@ fn levels_of(post: &[u16]) -> u64 {
 fn level_sum(post: &[u16]) -> u64
     requires { ⌜ Accepted (now post) ⌝ }
 {
+    let mut parents = [0u16; 1024];
     let mut levels = [0u16; 1024];
-    table::fill_levels(post, &mut levels);
+    table::fill_columns(post, &mut parents, &mut levels);
     plain::sum(&levels)
 }
 
@@ -208,8 +209,7 @@ fn tree_agrees(post: &[u16]) -> bool
 {
     let mut levels = [0u16; 1024];
     let mut parents = [0u16; 1024];
-    table::fill_levels(post, &mut levels);
-    table::fill_parents(post, &mut parents);
+    table::fill_columns(post, &mut parents, &mut levels);
     if !codes_agree(post, &parents, &levels) {
         return false;
     }
@@ -279,9 +279,8 @@ fn show_tree(post: &[u16])
     }
     let mut levels = [77u16; 12];
     let mut parents = [77u16; 12];
-    table::fill_levels(post, &mut levels);
+    table::fill_columns(post, &mut parents, &mut levels);
     print::column(&levels);
-    table::fill_parents(post, &mut parents);
     print::column(&parents);
     show_keys(1, post, &levels);
     show_keys(2, post, &levels);

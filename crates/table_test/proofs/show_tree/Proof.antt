@@ -1,55 +1,72 @@
 -- `table_test::show_tree` is safe and ends. Assumes nothing.
 use native.Mathlib.Omega.{arith}
-use borrow.Author.Needs.{needs}
 use Rattle.table.proofs.Laws.{levels-filled}
+use borrow.Author.Needs.{needs}
 use Rattle.table_test.proofs.show_tree.Statement.{statement}
 use Rattle.table_test.proofs.show_tree.Tie as tie
+use Rattle.table_test.proofs.show_tree.Reads as reads
+use Rattle.table_test.proofs.show_tree.Lts as lts
+use Rattle.table.proofs.fill_columns.Reads as fill-columns-reads
+use Rattle.table_test.proofs.print.column.Reads as column-reads
+use Rattle.table_test.proofs.show_keys.Reads as show-keys-reads
 
+-- src/main.rt:278:9
 returns : tie.Need-returns
 returns c = search needs
 
-slice-aggregate-fill-levels : tie.Need-slice-aggregate-fill-levels
-slice-aggregate-fill-levels c = search needs
+-- src/main.rt:282:31
+slice-aggregate-fill-columns : tie.Need-slice-aggregate-fill-columns
+slice-aggregate-fill-columns c = search needs
 
-fill-levels-requires : tie.Need-fill-levels-requires
-fill-levels-requires c κs = search needs
+-- src/main.rt:282:45
+slice-aggregate-fill-columns-2 : tie.Need-slice-aggregate-fill-columns-2
+slice-aggregate-fill-columns-2 c = search needs
 
+-- src/main.rt:282:5
+fill-columns-requires : tie.Need-fill-columns-requires
+fill-columns-requires c κs = search needs
+
+-- src/main.rt:283:19
 slice-aggregate-column : tie.Need-slice-aggregate-column
 slice-aggregate-column c = search needs
 
+-- src/main.rt:283:5
 column-requires : tie.Need-column-requires
 column-requires c κs = search needs
 
-slice-aggregate-fill-parents : tie.Need-slice-aggregate-fill-parents
-slice-aggregate-fill-parents c = search needs
-
-fill-parents-requires : tie.Need-fill-parents-requires
-fill-parents-requires c κs = search needs
-
+-- src/main.rt:284:19
 slice-aggregate-column-2 : tie.Need-slice-aggregate-column-2
 slice-aggregate-column-2 c = search needs
 
+-- src/main.rt:284:5
 column-requires-2 : tie.Need-column-requires-2
 column-requires-2 c κs = search needs
 
+-- src/main.rt:285:24
 slice-aggregate-show-keys : tie.Need-slice-aggregate-show-keys
 slice-aggregate-show-keys c = search needs
 
+-- src/main.rt:285:5
 show-keys-requires : tie.Need-show-keys-requires
-show-keys-requires c κs = (omega arith, levels-filled _ _ _ (omega arith) (c .before .before .before .before .before .before .before .before .before .fill-levels .ensures))
+show-keys-requires c κs = (omega arith, levels-filled _ _ _ (omega arith) (c .before .before .before .before .before .before .before .fill-columns .ensures .1))
 
+-- src/main.rt:286:24
 slice-aggregate-show-keys-2 : tie.Need-slice-aggregate-show-keys-2
 slice-aggregate-show-keys-2 c = search needs
 
+-- src/main.rt:286:5
 show-keys-requires-2 : tie.Need-show-keys-requires-2
-show-keys-requires-2 c κs = (omega arith, levels-filled _ _ _ (omega arith) (c .before .before .before .before .before .before .before .before .before .before .before .fill-levels .ensures))
+show-keys-requires-2 c κs = (omega arith, levels-filled _ _ _ (omega arith) (c .before .before .before .before .before .before .before .before .before .fill-columns .ensures .1))
 
+-- src/main.rt:287:24
 slice-aggregate-show-keys-3 : tie.Need-slice-aggregate-show-keys-3
 slice-aggregate-show-keys-3 c = search needs
 
+-- src/main.rt:287:5
 show-keys-requires-3 : tie.Need-show-keys-requires-3
-show-keys-requires-3 c κs = (omega arith, levels-filled _ _ _ (omega arith) (c .before .before .before .before .before .before .before .before .before .before .before .before .before .fill-levels .ensures))
+show-keys-requires-3 c κs = (omega arith, levels-filled _ _ _ (omega arith) (c .before .before .before .before .before .before .before .before .before .before .before .fill-columns .ensures .1))
 
+-- src/main.rt:274:1
 returns-2 : tie.Need-returns-2
 returns-2 c = search needs
 
@@ -58,12 +75,11 @@ show-tree-spec =
     tie.close
     (tie.spec
     returns
-    slice-aggregate-fill-levels
-    fill-levels-requires
+    slice-aggregate-fill-columns
+    slice-aggregate-fill-columns-2
+    fill-columns-requires
     slice-aggregate-column
     column-requires
-    slice-aggregate-fill-parents
-    fill-parents-requires
     slice-aggregate-column-2
     column-requires-2
     slice-aggregate-show-keys
