@@ -41,7 +41,7 @@ fn put_listing(
     put_end(out, at, sentence, e, tuples, used)
 }
 
-// A sentence that was read, up to `end`, into these columns. What the sets and the rows found held before is all one.
+// A sentence that was read, up to `end`, into these columns. What the sets and the rows found held before does not matter.
 fn list_sentence(
     post: &[u16],
     label: &[u16],
@@ -69,7 +69,7 @@ fn list_sentence(
 }
 
 // The next sentence of the text that is left. Any text, number, query and list of names. The columns, the sets and the rows
-// found are room to work in, lent so that no sentence pays for clearing them: what they held before is all one.
+// found are room to work in, lent so that no sentence pays for clearing them: what they held before does not matter.
 pub(crate) fn do_sentence(
     text: &[u8],
     sentence: u64,
