@@ -1,3 +1,4 @@
 pub mod Words
-pub mod Sweeps
+pub mod Kept
+pub mod Sides
 pub mod Entry
