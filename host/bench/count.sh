@@ -64,23 +64,23 @@ for text in 'Q(x) <- ZZZ(x).' "$query" 'Q(x,y) <- NP(x), Following(x,y), PP(y).'
     echo "| \`$text\` | $(each "$text" "$garden" "$sentences" 40) |"
 done
 
-# No row is a ZZZ, so that a listing is one pruning of two sweeps. The same query without its axis tells what the sweeps take.
+# No row is a ZZZ, so that nothing is listed. Both sides of the axis condition are looked at once, with all rows in both sets.
 sentence() { # sentence SHAPE ROWS
     (cd host && cargo bench --offline --quiet -- "$1" "$2")
 }
 echo
-echo '| | rows | `Q(x) <- ZZZ(x).` a row | a sweep of `Child+` a row | of `Following` | of `Child` | of `NextSibling` | of `NextSibling+` |'
+echo '| | rows | `Q(z) <- ZZZ(z).` a row | a look at both sides by `Child+` a row | by `Following` | by `Child` | by `NextSibling` | by `NextSibling+` |'
 echo '|---|---|---|---|---|---|---|---|'
 for shape in wide deep; do
     for rows in 64 128 256 512 1024; do
         sentence "$shape" "$rows" >"$room/tree"
         copies=$((60000 / $(wc -c <"$room/tree") - 1))
         [ $copies -le 8 ] || copies=8
-        bare=$(each 'Q(x) <- ZZZ(x), NN(y).' "$room/tree" 1 $copies)
-        line="| $shape | $rows | $(($(each 'Q(x) <- ZZZ(x).' "$room/tree" 1 $copies) / rows)) |"
+        bare=$(each 'Q(z) <- ZZZ(z).' "$room/tree" 1 $copies)
+        line="| $shape | $rows | $((bare / rows)) |"
         for axis in Child+ Following Child NextSibling NextSibling+; do
-            with=$(each "Q(x) <- ZZZ(x), NN(y), $axis(x,y)." "$room/tree" 1 $copies)
-            line="$line $(awk -v a="$with" -v b="$bare" -v n="$rows" 'BEGIN { printf "%.1f", (a - b) / 2 / n }') |"
+            with=$(each "Q(z) <- ZZZ(z), $axis(x,y)." "$room/tree" 1 $copies)
+            line="$line $(awk -v a="$with" -v b="$bare" -v n="$rows" 'BEGIN { printf "%.1f", (a - b) / n }') |"
         done
         echo "$line"
     done

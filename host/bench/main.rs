@@ -263,7 +263,7 @@ fn growth(deep: bool) {
     }
 }
 
-/// Pruning by each axis: the growth of a sweep.
+/// Pruning by each axis: the growth of a look at both sides.
 fn growth_by_axis() {
     heading("Wide trees, pruning `Q(x,y) <- NP(x), AXIS(x,y), NN(y).`", "");
     for axis in ["Child", "Child+", "Child*", "NextSibling", "NextSibling+", "NextSibling*", "Following"] {
@@ -274,9 +274,9 @@ fn growth_by_axis() {
     }
 }
 
-/// A variable on both sides of an axis: from a row of siblings each sweep strikes the first and the last that are left.
-fn growth_by_sweeps() {
-    heading("The most sweeps: one row with n - 1 children", "");
+/// A variable on both sides of an axis: from a row of siblings each round strikes the first and the last that are left.
+fn growth_by_rounds() {
+    heading("The most rounds: one row with n - 1 children", "");
     for text in ["Q(x) <- Following(x,x).", "Q(x) <- NextSibling(x,x).", "Q(x) <- NextSibling+(x,x)."] {
         let q = question(text);
         cells(&format!("pruning `{text}`"), |rows| {
@@ -353,5 +353,5 @@ fn main() {
     growth(false);
     growth(true);
     growth_by_axis();
-    growth_by_sweeps();
+    growth_by_rounds();
 }

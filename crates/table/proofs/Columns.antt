@@ -10,7 +10,7 @@ use Rattle.meaning.specs.Tests.{Is}
 use Rattle.meaning.specs.Table.{post, below, child, level}
 use Rattle.meaning.specs.Axes.{key}
 use Rattle.theory.specs.Tests.{not-so, below-suc, count-none, count-most}
-use Rattle.theory.specs.Trees.{Tree, below-is, below-in, below-between, child-is, level-child, nearest-child}
+use Rattle.theory.specs.Trees.{Tree, below-is, below-in, below-between, child-is, nearest-child}
 use Rattle.table.specs.Rows.{Filled, LevelOf}
 use Rattle.table.proofs.Stack.{compare, set-new}
 

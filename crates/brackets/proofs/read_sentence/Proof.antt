@@ -1,5 +1,5 @@
 -- The proof of `read_sentence` of src/lib.rt. Assumes nothing.
-use mathlib.Core.Path.{refl, sym}
+use mathlib.Core.Path.{sym}
 use Prim.Native.Nat.{ℕ}
 use native.Mathlib.Omega.{arith}
 use lib.ListN.{length-replicate}
@@ -9,11 +9,6 @@ use Rattle.brackets.proofs.Answers.{too-many, whole-few, whole-sizes, w
 use borrow.Author.Needs.{needs}
 use Rattle.brackets.proofs.read_sentence.Statement.{statement}
 use Rattle.brackets.proofs.read_sentence.Tie as tie
-use Rattle.brackets.proofs.read_sentence.Reads as reads
-use Rattle.brackets.proofs.read_sentence.Lts as lts
-use Rattle.brackets.proofs.hand_over.Reads as hand-over-reads
-use Rattle.brackets.proofs.names.find_ends.Reads as find-ends-reads
-use Rattle.brackets.proofs.trees.sentence.Reads as sentence-reads
 
 -- src/lib.rt:62:37
 slice-aggregate-find-ends : tie.Need-slice-aggregate-find-ends

@@ -7,11 +7,6 @@ use Rattle.meaning.specs.Sentences.{sentenceRest}
 use Rattle.search.proofs.Doing.{next-shorter}
 use Rattle.search.proofs.print_sentences.Statement.{statement}
 use Rattle.search.proofs.print_sentences.Tie as tie
-use Rattle.search.proofs.print_sentences.Reads as reads
-use Rattle.search.proofs.print_sentences.Lts as lts
-use Rattle.pouchmeadow.proofs.rest.Reads as rest-reads
-use Rattle.search.proofs.print.Reads as print-reads
-use Rattle.search.proofs.step.do_sentence.Reads as do-sentence-reads
 
 abbrev Inv-loop : tie.InvT-loop
 Inv-loop text q names post₀ label₀ sets₀ found₀ out₀ left₀ sentence₀ post label sets found out left sentence = (sentence + length left ≤ suc (length text)) × (length post ≡ 1024) × (length label ≡ 1024)

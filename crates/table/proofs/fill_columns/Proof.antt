@@ -12,9 +12,6 @@ use Rattle.table.proofs.Columns.{filled-none, filled-more, filled-end, 
 use Rattle.table.proofs.Stack.{set-new}
 use Rattle.table.proofs.fill_columns.Statement.{statement}
 use Rattle.table.proofs.fill_columns.Tie as tie
-use Rattle.table.proofs.fill_columns.Reads as reads
-use Rattle.table.proofs.fill_columns.Lts as lts
-use Rattle.table.proofs.parent_of.Reads as parent-of-reads
 
 abbrev Inv-loop : tie.InvT-loop
 Inv-loop post parents₀ levels₀ row₀ parents levels row =

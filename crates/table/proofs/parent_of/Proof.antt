@@ -2,7 +2,6 @@
 use mathlib.Core.Path.{sym, subst}
 use Prim.Native.Nat.{ℕ, _<_}
 use native.Mathlib.Omega.{arith}
-use lib.ListN.{getD}
 use borrow.Author.Needs.{needs}
 use Rattle.meaning.specs.Tests.{Is}
 use Rattle.meaning.specs.Table.{child}
@@ -10,9 +9,6 @@ use Rattle.theory.specs.Trees.{tree-is, below-is, child-is}
 use Rattle.table.proofs.Columns.{Passed, not-root, passed-on, parent-found}
 use Rattle.table.proofs.parent_of.Statement.{statement}
 use Rattle.table.proofs.parent_of.Tie as tie
-use Rattle.table.proofs.parent_of.Reads as reads
-use Rattle.table.proofs.parent_of.Lts as lts
-use Rattle.table.proofs.wide.Reads as wide-reads
 
 abbrev Inv-loop : tie.InvT-loop
 Inv-loop post parents row x p₀ p = (p < row) × Passed post row p

@@ -4,11 +4,6 @@ use Rattle.table.proofs.Laws.{levels-filled}
 use borrow.Author.Needs.{needs}
 use Rattle.table_test.proofs.show_tree.Statement.{statement}
 use Rattle.table_test.proofs.show_tree.Tie as tie
-use Rattle.table_test.proofs.show_tree.Reads as reads
-use Rattle.table_test.proofs.show_tree.Lts as lts
-use Rattle.table.proofs.fill_columns.Reads as fill-columns-reads
-use Rattle.table_test.proofs.print.column.Reads as column-reads
-use Rattle.table_test.proofs.show_keys.Reads as show-keys-reads
 
 -- src/main.rt:278:9
 returns : tie.Need-returns

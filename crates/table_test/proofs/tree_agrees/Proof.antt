@@ -4,11 +4,6 @@ use Rattle.table.proofs.Laws.{levels-filled, parents-filled}
 use borrow.Author.Needs.{needs}
 use Rattle.table_test.proofs.tree_agrees.Statement.{statement}
 use Rattle.table_test.proofs.tree_agrees.Tie as tie
-use Rattle.table_test.proofs.tree_agrees.Reads as reads
-use Rattle.table_test.proofs.tree_agrees.Lts as lts
-use Rattle.table.proofs.fill_columns.Reads as fill-columns-reads
-use Rattle.table_test.proofs.codes_agree.Reads as codes-agree-reads
-use Rattle.table_test.proofs.plain.levels_agree.Reads as levels-agree-reads
 
 -- src/main.rt:212:31
 slice-aggregate-fill-columns : tie.Need-slice-aggregate-fill-columns

@@ -9,12 +9,6 @@ use Rattle.brackets.proofs.Wholes.{whole-none, whole-plain, whole-empty
 use borrow.Author.Needs.{needs}
 use Rattle.brackets.proofs.trees.sentence.Statement.{statement}
 use Rattle.brackets.proofs.trees.sentence.Tie as tie
-use Rattle.brackets.proofs.trees.sentence.Reads as reads
-use Rattle.brackets.proofs.trees.sentence.Lts as lts
-use Rattle.brackets.proofs.bytes.is_inner.Reads as is-inner-reads
-use Rattle.brackets.proofs.bytes.peek.Reads as peek-reads
-use Rattle.brackets.proofs.bytes.skip_white.Reads as skip-white-reads
-use Rattle.brackets.proofs.trees.tree.Reads as tree-reads
 
 -- src/trees.rt:104:9
 skip-white-requires : tie.Need-skip-white-requires

@@ -6,12 +6,6 @@ use Rattle.search.proofs.Doing.{does-nothing, does-refused, does-read, 
 use borrow.Author.Needs.{needs}
 use Rattle.search.proofs.step.do_sentence.Statement.{statement}
 use Rattle.search.proofs.step.do_sentence.Tie as tie
-use Rattle.search.proofs.step.do_sentence.Reads as reads
-use Rattle.search.proofs.step.do_sentence.Lts as lts
-use Rattle.brackets.proofs.is_blank.Reads as is-blank-reads
-use Rattle.pouchmeadow.proofs.read_sentence.Reads as read-sentence-reads
-use Rattle.search.proofs.lines.put_refusal.Reads as put-refusal-reads
-use Rattle.search.proofs.step.list_sentence.Reads as list-sentence-reads
 
 -- src/step.rt:87:8
 is-blank-requires : tie.Need-is-blank-requires

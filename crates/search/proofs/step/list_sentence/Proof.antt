@@ -5,11 +5,6 @@ use Rattle.search.proofs.Doing.{head-first, tuples-fit, given, any-buff
 use borrow.Author.Needs.{needs}
 use Rattle.search.proofs.step.list_sentence.Statement.{statement}
 use Rattle.search.proofs.step.list_sentence.Tie as tie
-use Rattle.search.proofs.step.list_sentence.Reads as reads
-use Rattle.search.proofs.step.list_sentence.Lts as lts
-use Rattle.answers.proofs.list_answers.Reads as list-answers-reads
-use Rattle.search.proofs.lines.put_refusal.Reads as put-refusal-reads
-use Rattle.search.proofs.step.put_listing.Reads as put-listing-reads
 
 -- src/step.rt:56:9
 list-answers-requires : tie.Need-list-answers-requires
