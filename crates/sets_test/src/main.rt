@@ -46,6 +46,26 @@ fn sets_of(n: usize, at: usize) {
     labels_of(n, at);
 }
 
+// Ranges that are empty, that end or begin at a word's first or last row, and the longest.
+fn range_of(a: usize, b: usize) {
+    let mut s = [0u64; 24];
+    say_right(rows::adds_range(&mut s, a, b));
+}
+
+fn ranges() {
+    range_of(0, 0);
+    range_of(1024, 1024);
+    range_of(64, 64);
+    range_of(0, 1);
+    range_of(1023, 1024);
+    range_of(63, 64);
+    range_of(63, 65);
+    range_of(64, 128);
+    range_of(65, 191);
+    range_of(0, 1024);
+    range_of(127, 1000);
+}
+
 fn main() {
     say_right(rows::widths());
     sets_of(1, 0);
@@ -56,4 +76,5 @@ fn main() {
     sets_of(65, 5);
     sets_of(1023, 8);
     sets_of(1024, 0);
+    ranges();
 }

@@ -165,6 +165,35 @@ pub(crate) fn smallest_by(s: &[u64], at: usize, n: usize, keys: &[u32]) -> usize
     sets::smallest_by(s, at, n, keys)
 }
 
+pub(crate) fn next(s: &[u64], at: usize, from: usize, w: usize) -> usize {
+    if 2000 < at {
+        return 99999;
+    }
+    if 256 < w {
+        return 99999;
+    }
+    if s.len() < at + w {
+        return 99999;
+    }
+    if w * 64 < from {
+        return 99999;
+    }
+    sets::next(s, at, from, w)
+}
+
+pub(crate) fn add_range(s: &mut [u64], a: usize, b: usize) {
+    if b < a {
+        return;
+    }
+    if 1024 < b {
+        return;
+    }
+    if s.len() < sets::width(b) {
+        return;
+    }
+    sets::add_range(s, a, b);
+}
+
 pub(crate) fn fill(s: &mut [u64], at: usize, n: usize) {
     if 2000 < at {
         return;
@@ -182,20 +211,20 @@ pub(crate) fn fill(s: &mut [u64], at: usize, n: usize) {
     sets::fill(s, at, n);
 }
 
-pub(crate) fn keep(s: &mut [u64], at: usize, mask: &[u64], w: usize) {
+pub(crate) fn keep(s: &mut [u64], at: usize, mask: &[u64], w: usize) -> bool {
     if 2000 < at {
-        return;
+        return false;
     }
     if mask.len() < w {
-        return;
+        return false;
     }
     if 256 < w {
-        return;
+        return false;
     }
     if s.len() < at + w {
-        return;
+        return false;
     }
-    sets::keep(s, at, mask, w);
+    sets::keep(s, at, mask, w)
 }
 
 pub(crate) fn keep_label(s: &mut [u64], at: usize, n: usize, label: &[u16], l: u16) {
@@ -377,7 +406,32 @@ pub(crate) fn wanted_least(kind: u8, n: usize) -> usize {
     best
 }
 
-// The w words at `at` hold just what is wanted, the others are as before, and size and smallest rows are right.
+// Row r where it is wanted, otherwise the row that was known to be next.
+fn next_wanted(kind: u8, n: usize, r: usize, known: usize) -> usize {
+    if wanted(kind, n, r) {
+        return r;
+    }
+    known
+}
+
+// From every row on, the next row of the w words at `at` is the next wanted one.
+pub(crate) fn nexts(s: &[u64], at: usize, w: usize, n: usize, kind: u8) -> bool {
+    if 100 < w {
+        return false;
+    }
+    let mut from = w * 64;
+    let mut known = w * 64;
+    while 0 < from {
+        if next(s, at, from, w) != known {
+            return false;
+        }
+        from -= 1;
+        known = next_wanted(kind, n, from, known);
+    }
+    next(s, at, 0, w) == known
+}
+
+// The w words at `at` hold just what is wanted, the others are as before, and size, next and smallest rows are right.
 pub(crate) fn holds(s: &[u64], at: usize, n: usize, kind: u8, keys: &[u32]) -> bool {
     let w = width(n);
     if 100 < w {
@@ -390,6 +444,9 @@ pub(crate) fn holds(s: &[u64], at: usize, n: usize, kind: u8, keys: &[u32]) -> b
         return false;
     }
     if size(s, at, w) != wanted_size(kind, n) {
+        return false;
+    }
+    if !nexts(s, at, w, n, kind) {
         return false;
     }
     if smallest(s, at, w) != wanted_first(kind, n, w * 64) {
@@ -447,8 +504,43 @@ pub(crate) fn set_mask(mask: &mut [u64], n: usize) {
 
 pub(crate) fn keeps(s: &mut [u64], at: usize, n: usize, mask: &[u64], keys: &[u32]) -> bool {
     add_picked(s, at, n, 1);
-    keep(s, at, mask, width(n));
+    let struck = keep(s, at, mask, width(n));
+    if struck != (wanted_size(3, n) < wanted_size(1, n)) {
+        return false;
+    }
+    if keep(s, at, mask, width(n)) {
+        return false;
+    }
     holds(s, at, n, 3, keys)
+}
+
+// Row r is in if it was picked before, or if it is in the range.
+fn range_row(s: &[u64], a: usize, b: usize, r: usize) -> bool {
+    if a <= r {
+        if r < b {
+            return plain(s, 0, r);
+        }
+    }
+    plain(s, 0, r) == picked(1, r)
+}
+
+// Picked rows of 24 words, and those from a up to b beside them.
+pub(crate) fn adds_range(s: &mut [u64], a: usize, b: usize) -> bool {
+    set_words(s, 0);
+    add_picked(s, 0, 1536, 1);
+    add_range(s, a, b);
+    ranges(s, a, b)
+}
+
+fn ranges(s: &[u64], a: usize, b: usize) -> bool {
+    let mut r: usize = 0;
+    while r < 1536 {
+        if !range_row(s, a, b, r) {
+            return false;
+        }
+        r += 1;
+    }
+    true
 }
 
 // Some rows, and of these those of a label.
