@@ -78,8 +78,8 @@ fn more_on_d(q: Query, strikings: u64, used: usize) -> u64 {
     pruned(&post, &label, q, 20, strikings, used)
 }
 
-// x0 is empty from the start. Following(x0,x1) comes last of three, so that x1 loses its rows at the end of the first
-// sweep, x2 in the second and x3 in the third: ten rows each.
+// x0 is empty from the start. Following(x0,x1) comes last of three, so that x1 loses its rows after the other conditions were
+// looked at once, then x2 in a second round and x3 in a third: ten rows each.
 fn along() -> u64 {
     let mut q = free(4);
     q.label_count = 1;
