@@ -1,9 +1,10 @@
 -- Parts of texts and lines of a list, as the functions on names see them. Assumes nothing: these are definitions.
 use mathlib.Core.Path.{_≡_}
+use mathlib.Core.Bool.{Bool, false}
 use mathlib.Core.List.{List, [], _∷_}
 use Prim.Native.Nat.{ℕ, _+_, _-_, _≤_, _<_}
 use lib.Dec.{eqb}
-use lib.ListN.{length, take, drop}
+use lib.ListN.{length, getD, take, drop}
 use Rattle.meaning.specs.Names.{pick, namesOf}
 
 -- the bytes from a up to b
@@ -29,3 +30,12 @@ Marked list a (e ∷ ends) = (e ≡ a + length (ahead (drop a list))) × (e < le
 pub record FoundEnds (list : List ℕ) (n : ℕ) (ends : List ℕ) : Type 0 where
   pub few : n ≤ 32 → Marked list 0 (take n ends)
   pub many : 32 < n → 32 < length (namesOf list)
+
+-- no byte of the list is b
+abbrev pub Missing : ℕ → List ℕ → Type 0
+Missing b list = (i : ℕ) → i < length list → getD list i 0 ≡ b → ⊥
+
+-- a byte that is not noted is none of the list, and neither - nor =
+pub record NotedBytes (list : List ℕ) (noted : List Bool) : Type 0 where
+  pub size : length noted ≡ 256
+  pub missing : (b : ℕ) → b < 256 → getD noted b false ≡ false → (b ≡ 45 → ⊥) × (b ≡ 61 → ⊥) × Missing b list

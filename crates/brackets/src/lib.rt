@@ -65,7 +65,8 @@ pub fn read_sentence(
     }
     let mut posts = [0u16; 1024];
     let mut labels = [0u16; 1024];
-    let r = trees::sentence(text, names, &ends[..n], &mut posts, &mut labels);
+    let noted = names::find_bytes(names);
+    let r = trees::sentence(text, names, &ends[..n], &noted, &mut posts, &mut labels);
     match r {
         SentenceAnswer::Read(count, end) => hand_over(count, end, &posts, &labels, post, label),
         SentenceAnswer::Refused(why) => SentenceAnswer::Refused(why),

@@ -1,9 +1,9 @@
 // The list of names, and a label's number in it.
 ghost use mathlib.Core.Path.{_≡_};
-ghost use Prim.Native.Nat.{ℕ, _+_, _≤_};
+ghost use Prim.Native.Nat.{ℕ, _+_, _≤_, _<_};
 ghost use lib.ListN.{length, drop};
 ghost use Rattle.meaning.specs.Names.{namesOf, nameOf, same, placeFrom, labelNumber};
-ghost use Rattle.brackets.specs.Lines.{part, ahead, Marked, FoundEnds};
+ghost use Rattle.brackets.specs.Lines.{part, ahead, Marked, FoundEnds, NotedBytes};
 
 // The first line feed at a place or behind it; the length where there is none.
 fn line_end(list: &[u8], at: usize) -> usize
@@ -99,11 +99,38 @@ fn place(text: &[u8], a: usize, b: usize, list: &[u8], ends: &[usize]) -> u16
     65535
 }
 
-// The number of the label from a up to b.
-pub(crate) fn label_number(text: &[u8], a: usize, b: usize, list: &[u8], ends: &[usize]) -> u16
-    requires { ⌜ (a ≤ b) × (b ≤ length (now text)) × Marked (now list) 0 (now ends) × (length (now ends) ≤ 32) ⌝ }
+// Notes which bytes the list has. - and = are noted, too: before them a name ends, and may be empty.
+pub(crate) fn find_bytes(list: &[u8]) -> [bool; 256]
+    ensures { λ m. ⌜ NotedBytes (now (list .entry)) m ⌝ }
+{
+    let mut noted = [false; 256];
+    noted[45] = true;
+    noted[61] = true;
+    let mut i: usize = 0;
+    while i < list.len() {
+        let b = list[i];
+        noted[b as usize] = true;
+        i += 1;
+    }
+    noted
+}
+
+// The number of the label from a up to b. Most labels begin with a byte that no name has.
+pub(crate) fn label_number(
+    text: &[u8],
+    a: usize,
+    b: usize,
+    list: &[u8],
+    ends: &[usize],
+    noted: &[bool; 256],
+) -> u16
+    requires { ⌜ (a < b) × (b ≤ length (now text)) × Marked (now list) 0 (now ends) × (length (now ends) ≤ 32) × NotedBytes (now list) (now noted) ⌝ }
     ensures { λ r. ⌜ r ≡ labelNumber (now (list .entry)) (part a b (now (text .entry))) ⌝ }
 {
+    let first = text[a];
+    if !noted[first as usize] {
+        return 65535;
+    }
     let e = name_end(text, a, b);
     place(text, a, e, list, ends)
 }

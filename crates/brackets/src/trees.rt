@@ -2,7 +2,7 @@
 ghost use mathlib.Core.Path.{_≡_};
 ghost use Prim.Native.Nat.{ℕ, _+_, _-_, _≤_};
 ghost use lib.ListN.{length};
-ghost use Rattle.brackets.specs.Lines.{Marked};
+ghost use Rattle.brackets.specs.Lines.{Marked, NotedBytes};
 ghost use Rattle.brackets.specs.Meets.{MeetsTree, MeetsBody, MeetsWhole};
 use crate::bytes::is_inner;
 use crate::bytes::letters_end;
@@ -21,10 +21,11 @@ fn tree(
     rows: usize,
     names: &[u8],
     ends: &[usize],
+    noted: &[bool; 256],
     post: &mut [u16; 1024],
     label: &mut [u16; 1024],
 ) -> SentenceAnswer
-    requires { ⌜ (1 ≤ at) × (at ≤ length (now text)) × (levels ≤ 64) × (64 ≤ levels + rows) × (rows ≤ 1024) × Marked (now names) 0 (now ends) × (length (now ends) ≤ 32) ⌝ }
+    requires { ⌜ (1 ≤ at) × (at ≤ length (now text)) × (levels ≤ 64) × (64 ≤ levels + rows) × (rows ≤ 1024) × Marked (now names) 0 (now ends) × (length (now ends) ≤ 32) × NotedBytes (now names) (now noted) ⌝ }
     ensures { λ r. ⌜ MeetsTree (now (text .entry)) (now (names .entry)) at levels rows r (now (post .entry)) (now (post .exit)) (now (label .entry)) (now (label .exit)) ⌝ }
 {
     if levels == 0 {
@@ -41,8 +42,18 @@ fn tree(
     if w == e {
         return SentenceAnswer::Refused(Refusal::Brackets(e));
     }
-    label[rows] = label_number(text, at, e, names, ends);
-    let r = body(text, w, levels - 1, rows + 1, names, ends, post, label);
+    label[rows] = label_number(text, at, e, names, ends, noted);
+    let r = body(
+        text,
+        w,
+        levels - 1,
+        rows + 1,
+        names,
+        ends,
+        noted,
+        post,
+        label,
+    );
     match r {
         SentenceAnswer::Read(after, next) => {
             if peek(text, next) != b')' {
@@ -63,10 +74,11 @@ fn body(
     rows: usize,
     names: &[u8],
     ends: &[usize],
+    noted: &[bool; 256],
     post: &mut [u16; 1024],
     label: &mut [u16; 1024],
 ) -> SentenceAnswer
-    requires { ⌜ (at ≤ length (now text)) × (levels ≤ 64) × (64 ≤ levels + rows) × (rows ≤ 1024) × Marked (now names) 0 (now ends) × (length (now ends) ≤ 32) ⌝ }
+    requires { ⌜ (at ≤ length (now text)) × (levels ≤ 64) × (64 ≤ levels + rows) × (rows ≤ 1024) × Marked (now names) 0 (now ends) × (length (now ends) ≤ 32) × NotedBytes (now names) (now noted) ⌝ }
     ensures { λ r. ⌜ MeetsBody (now (text .entry)) (now (names .entry)) at levels rows r (now (post .entry)) (now (post .exit)) (now (label .entry)) (now (label .exit)) ⌝ }
 {
     if peek(text, at) != b'(' {
@@ -80,7 +92,17 @@ fn body(
     let mut here = at;
     let mut count = rows;
     loop {
-        let r = tree(text, here + 1, levels, count, names, ends, post, label);
+        let r = tree(
+            text,
+            here + 1,
+            levels,
+            count,
+            names,
+            ends,
+            noted,
+            post,
+            label,
+        );
         match r {
             SentenceAnswer::Read(after, next) => {
                 let y = skip_white(text, next);
@@ -102,10 +124,11 @@ pub(crate) fn sentence(
     text: &[u8],
     names: &[u8],
     ends: &[usize],
+    noted: &[bool; 256],
     post: &mut [u16; 1024],
     label: &mut [u16; 1024],
 ) -> SentenceAnswer
-    requires { ⌜ Marked (now names) 0 (now ends) × (length (now ends) ≤ 32) ⌝ }
+    requires { ⌜ Marked (now names) 0 (now ends) × (length (now ends) ≤ 32) × NotedBytes (now names) (now noted) ⌝ }
     ensures { λ r. ⌜ MeetsWhole (now (text .entry)) (now (names .entry)) r (now (post .entry)) (now (post .exit)) (now (label .entry)) (now (label .exit)) ⌝ }
 {
     let a = skip_white(text, 0);
@@ -114,13 +137,13 @@ pub(crate) fn sentence(
     }
     let v = a + 1;
     if is_inner(peek(text, v)) {
-        return tree(text, v, 64, 0, names, ends, post, label);
+        return tree(text, v, 64, 0, names, ends, noted, post, label);
     }
     let b = skip_white(text, v);
     if peek(text, b) != b'(' {
         return SentenceAnswer::Refused(Refusal::Brackets(b));
     }
-    let r = tree(text, b + 1, 64, 0, names, ends, post, label);
+    let r = tree(text, b + 1, 64, 0, names, ends, noted, post, label);
     match r {
         SentenceAnswer::Read(rows, next) => {
             let y = skip_white(text, next);

@@ -24,23 +24,23 @@ use Rattle.brackets.proofs.names.label_number.Reads as label-number-rea
 use Rattle.brackets.proofs.trees.+body+tree.{statement}
 use Rattle.brackets.proofs.trees.+body+tree.Tie.{close}
 
-abbrev μ-body : Measures 5 body-kinds.ps ℕ
+abbrev μ-body : Measures 6 body-kinds.ps ℕ
 μ-body κs a = length (a .0 .now) - a .1 .0
 
-abbrev μ-tree : Measures 5 tree-kinds.ps ℕ
+abbrev μ-tree : Measures 6 tree-kinds.ps ℕ
 μ-tree κs a = length (a .0 .now) - a .1 .0
 
-abbrev body-at : ℕ → In 5 body-kinds.ps
-body-at t = and 5 body-kinds.ps (is 5 body-kinds.ps μ-body t) body.Pre
+abbrev body-at : ℕ → In 6 body-kinds.ps
+body-at t = and 6 body-kinds.ps (is 6 body-kinds.ps μ-body t) body.Pre
 
-abbrev body-below : ℕ → In 5 body-kinds.ps
-body-below t = and 5 body-kinds.ps (falls 5 body-kinds.ps _<_ μ-body t) body.Pre
+abbrev body-below : ℕ → In 6 body-kinds.ps
+body-below t = and 6 body-kinds.ps (falls 6 body-kinds.ps _<_ μ-body t) body.Pre
 
-abbrev tree-at : ℕ → In 5 tree-kinds.ps
-tree-at t = and 5 tree-kinds.ps (is 5 tree-kinds.ps μ-tree t) tree.Pre
+abbrev tree-at : ℕ → In 6 tree-kinds.ps
+tree-at t = and 6 tree-kinds.ps (is 6 tree-kinds.ps μ-tree t) tree.Pre
 
-abbrev tree-below : ℕ → In 5 tree-kinds.ps
-tree-below t = and 5 tree-kinds.ps (falls 5 tree-kinds.ps _<_ μ-tree t) tree.Pre
+abbrev tree-below : ℕ → In 6 tree-kinds.ps
+tree-below t = and 6 tree-kinds.ps (falls 6 tree-kinds.ps _<_ μ-tree t) tree.Pre
 
 -- what the functions that each calls ask and ensure
 abbrev body-claims : ℕ → body-lts.Claims
@@ -71,12 +71,12 @@ tree-claims t = (
 
 -- the trees read so far: what a body at this place gives, the whole body gives
 abbrev body-Inv-loop : body-lts.InvT-loop
-body-Inv-loop text at levels rows names ends post₀ label₀ here₀ count₀ post label here count =
+body-Inv-loop text at levels rows names ends noted post₀ label₀ here₀ count₀ post label here count =
     (getD text here 0 ≡ 40) × (at ≤ here) × (64 ≤ levels + count) × (count ≤ 1024)
     × ((r : SentenceAnswer) (p l : List ℕ) → MeetsBody text names here levels count r post p label l → MeetsBody text names at levels rows r post₀ p label₀ l)
 
 abbrev body-μ-loop : body-lts.MeasureT-loop
-body-μ-loop text at levels rows names ends post₀ label₀ here₀ count₀ post label here count = length text - here
+body-μ-loop text at levels rows names ends noted post₀ label₀ here₀ count₀ post label here count = length text - here
 
 -- src/trees.rt:73:8
 body-peek-requires : (t : ℕ) → body-lts.Need-peek-requires (body-claims t) (body-at t) body.Post body-Inv-loop body-μ-loop
@@ -108,7 +108,7 @@ body-add-tree t c = let lp = c in let p = lp .before .before in let st = p .befo
 
 -- src/trees.rt:84:17
 body-tree-requires : (t : ℕ) → body-lts.Need-tree-requires (body-claims t) (body-at t) body.Post body-Inv-loop body-μ-loop
-body-tree-requires t c κs = let lp = c .before .before in let p = lp .before .before in let st = p .before .before .before .before in let a = st .args in let i = lp .loop .inv in let ins = inside-at (a .text .now) (lp .loop .here) 39 (i .0) in (omega (arith, st .pre, ins, i .1), (omega arith, omega (arith, ins), omega (arith, st .pre), omega (arith, i .2), omega (arith, i .3), st .pre .1 .4, st .pre .1 .5))
+body-tree-requires t c κs = let lp = c .before .before in let p = lp .before .before in let st = p .before .before .before .before in let a = st .args in let i = lp .loop .inv in let ins = inside-at (a .text .now) (lp .loop .here) 39 (i .0) in (omega (arith, st .pre, ins, i .1), (omega arith, omega (arith, ins), omega (arith, st .pre), omega (arith, i .2), omega (arith, i .3), st .pre .1 .4, st .pre .1 .5, st .pre .1 .6))
 
 -- src/trees.rt:86:34
 body-enum-known-r : (t : ℕ) → body-lts.Need-enum-known-r (body-claims t) (body-at t) body.Post body-Inv-loop body-μ-loop
@@ -143,16 +143,16 @@ body-returns-4 : (t : ℕ) → body-lts.Need-returns-4 (body-claims t) (body-at 
 body-returns-4 t c = let k = c .before in let b = k .before .before in let lp = b .before .before .before in let p = lp .before .before in let st = p .before .before .before .before in let a = st .args in let i = lp .loop .inv in let ins = inside-at (a .text .now) (lp .loop .here) 39 (i .0) in λ f. i .4 _ _ _ (λ g. body-refused (a .text .now) (a .names .now) (lp .loop .here) (a .levels) (lp .loop .count) _ _ _ _ (i .0) (b .tree .result) (b .tree .ensures) (k .r2 .given .0 .0) (k .r2 .given .1) _ _ g) f
 
 -- src/trees.rt:31:58
-tree-sub-t16 : (t : ℕ) → tree-lts.Need-sub-t16 (tree-claims t) (tree-at t) tree.Post
-tree-sub-t16 t c = search needs
+tree-sub-t17 : (t : ℕ) → tree-lts.Need-sub-t17 (tree-claims t) (tree-at t) tree.Post
+tree-sub-t17 t c = search needs
 
 -- src/trees.rt:31:9
 tree-returns : (t : ℕ) → tree-lts.Need-returns (tree-claims t) (tree-at t) tree.Post
 tree-returns t c = let st = c .before .before .before .before in let a = st .args in λ f. tree-deep (a .text .now) (a .names .now) (a .at) (a .levels) (a .rows) _ _ _ _ (omega (arith, st .pre)) (omega (arith, st .pre)) (c .if1 .taken) f
 
 -- src/trees.rt:34:58
-tree-sub-t18 : (t : ℕ) → tree-lts.Need-sub-t18 (tree-claims t) (tree-at t) tree.Post
-tree-sub-t18 t c = search needs
+tree-sub-t19 : (t : ℕ) → tree-lts.Need-sub-t19 (tree-claims t) (tree-at t) tree.Post
+tree-sub-t19 t c = search needs
 
 -- src/trees.rt:34:9
 tree-returns-2 : (t : ℕ) → tree-lts.Need-returns-2 (tree-claims t) (tree-at t) tree.Post
@@ -176,7 +176,7 @@ tree-returns-4 t c = let sw = c .before in let e3 = sw .before in let le = e3 .b
 
 -- src/trees.rt:44:19
 tree-label-number-requires : (t : ℕ) → tree-lts.Need-label-number-requires (tree-claims t) (tree-at t) tree.Post
-tree-label-number-requires t c κs = let sw = c .before in let e3 = sw .before in let le = e3 .before in let e2 = le .before in let st = e2 .before .before .before .before .before in let E = le .letters-end .ensures in (E .1, E .2, st .pre .1 .5, st .pre .1 .6)
+tree-label-number-requires t c κs = let sw = c .before in let e3 = sw .before in let le = e3 .before in let e2 = le .before in let st = e2 .before .before .before .before .before in let E = le .letters-end .ensures in (omega (arith, E .1, e3 .if3 .left), E .2, st .pre .1 .5, st .pre .1 .6, st .pre .1 .7)
 
 -- src/trees.rt:44:5
 tree-mul-label : (t : ℕ) → tree-lts.Need-mul-label (tree-claims t) (tree-at t) tree.Post
@@ -196,7 +196,7 @@ tree-add-body t c = search needs
 
 -- src/trees.rt:45:9
 tree-body-requires : (t : ℕ) → tree-lts.Need-body-requires (tree-claims t) (tree-at t) tree.Post
-tree-body-requires t c κs = let ln = c .before .before in let e4 = ln .before in let sw = e4 .before in let e3 = sw .before in let le = e3 .before in let e2 = le .before in let st = e2 .before .before .before .before .before in let a = st .args in let E = le .letters-end .ensures in let lv = e2 .before .if1 .left in let rm = e2 .if2 .left in let W = sw .skip-white .ensures in (omega (arith, st .pre, E .1, E .2, W .1, W .2, e3 .if3 .left, e4 .if4 .left), (W .2, omega (arith, st .pre), omega (arith, st .pre, lv), omega (arith, rm), st .pre .1 .5, st .pre .1 .6))
+tree-body-requires t c κs = let ln = c .before .before in let e4 = ln .before in let sw = e4 .before in let e3 = sw .before in let le = e3 .before in let e2 = le .before in let st = e2 .before .before .before .before .before in let a = st .args in let E = le .letters-end .ensures in let lv = e2 .before .if1 .left in let rm = e2 .if2 .left in let W = sw .skip-white .ensures in (omega (arith, st .pre, E .1, E .2, W .1, W .2, e3 .if3 .left, e4 .if4 .left), (W .2, omega (arith, st .pre), omega (arith, st .pre, lv), omega (arith, rm), st .pre .1 .5, st .pre .1 .6, st .pre .1 .7))
 
 -- src/trees.rt:47:30
 tree-enum-known-r : (t : ℕ) → tree-lts.Need-enum-known-r (tree-claims t) (tree-at t) tree.Post
@@ -235,8 +235,8 @@ tree-element-write-post : (t : ℕ) → tree-lts.Need-element-write-post (tree-c
 tree-element-write-post t c = search needs
 
 -- src/trees.rt:52:41
-tree-add-t33 : (t : ℕ) → tree-lts.Need-add-t33 (tree-claims t) (tree-at t) tree.Post
-tree-add-t33 t c = let pk = c .before in let k = pk .before .before in let b = k .before .before in let ln = b .before .before .before in let e4 = ln .before in let sw = e4 .before in let e3 = sw .before in let le = e3 .before in let e2 = le .before in let st = e2 .before .before .before .before .before in let a = st .args in let E = le .letters-end .ensures in let lv = e2 .before .if1 .left in let rm = e2 .if2 .left in let W = sw .skip-white .ensures in omega (arith, inside-at (a .text .now) (k .r .given .0 .1 .0) 40 (sym (pk .peek .ensures) ∙ c .if5 .left))
+tree-add-t34 : (t : ℕ) → tree-lts.Need-add-t34 (tree-claims t) (tree-at t) tree.Post
+tree-add-t34 t c = let pk = c .before in let k = pk .before .before in let b = k .before .before in let ln = b .before .before .before in let e4 = ln .before in let sw = e4 .before in let e3 = sw .before in let le = e3 .before in let e2 = le .before in let st = e2 .before .before .before .before .before in let a = st .args in let E = le .letters-end .ensures in let lv = e2 .before .if1 .left in let rm = e2 .if2 .left in let W = sw .skip-white .ensures in omega (arith, inside-at (a .text .now) (k .r .given .0 .1 .0) 40 (sym (pk .peek .ensures) ∙ c .if5 .left))
 
 -- src/trees.rt:54:33
 tree-enum-known-r-2 : (t : ℕ) → tree-lts.Need-enum-known-r-2 (tree-claims t) (tree-at t) tree.Post
@@ -295,9 +295,9 @@ pub +body+tree-spec : {M : Type 1} → statement M
     )
     (tree-at t)
     tree.Post
-    (tree-sub-t16 t)
+    (tree-sub-t17 t)
     (tree-returns t)
-    (tree-sub-t18 t)
+    (tree-sub-t19 t)
     (tree-returns-2 t)
     (tree-letters-end-requires t)
     (tree-returns-3 t)
@@ -318,7 +318,7 @@ pub +body+tree-spec : {M : Type 1} → statement M
     (tree-cast-post t)
     (tree-mul-post t)
     (tree-element-write-post t)
-    (tree-add-t33 t)
+    (tree-add-t34 t)
     (tree-enum-known-r-2 t)
     (tree-returns-6 t)
     (tree-returns-7 t)

@@ -36,7 +36,7 @@ is-inner-requires c κs = search needs
 
 -- src/trees.rt:110:9
 tree-requires : tie.Need-tree-requires
-tree-requires c κs = let ii = c .before .before .before in let p2 = ii .before in let x1 = p2 .before in let pk = x1 .before in let sw = pk .before in let st = sw .before .before .before .before in let a = st .args in let A = sw .skip-white .ensures in let h = sym (pk .peek .ensures) ∙ x1 .if1 .left in let ins = inside-at (a .text .now) (sw .skip-white .result) 39 h in (omega arith, omega (arith, ins), omega arith, omega arith, omega arith, st .pre .0, st .pre .1)
+tree-requires c κs = let ii = c .before .before .before in let p2 = ii .before in let x1 = p2 .before in let pk = x1 .before in let sw = pk .before in let st = sw .before .before .before .before in let a = st .args in let A = sw .skip-white .ensures in let h = sym (pk .peek .ensures) ∙ x1 .if1 .left in let ins = inside-at (a .text .now) (sw .skip-white .result) 39 h in (omega arith, omega (arith, ins), omega arith, omega arith, omega arith, st .pre .0, st .pre .1, st .pre .2)
 
 -- src/trees.rt:110:9
 returns-2 : tie.Need-returns-2
@@ -60,7 +60,7 @@ add-tree c = search needs
 
 -- src/trees.rt:116:9
 tree-requires-2 : tie.Need-tree-requires-2
-tree-requires-2 c κs = let x3 = c .before .before in let p3 = x3 .before in let s2 = p3 .before in let x2 = s2 .before in let ii = x2 .before in let p2 = ii .before in let x1 = p2 .before in let pk = x1 .before in let sw = pk .before in let st = sw .before .before .before .before in let a = st .args in let A = sw .skip-white .ensures in let h = sym (pk .peek .ensures) ∙ x1 .if1 .left in let ins = inside-at (a .text .now) (sw .skip-white .result) 39 h in let B = s2 .skip-white2 .ensures in let k = (ap inner (sym (p2 .peek2 .ensures)) ∙ sym (ii .is-inner .ensures) ∙ x2 .if2 .left) in let q = sym (p3 .peek3 .ensures) ∙ x3 .if3 .left in let ins3 = inside-at (a .text .now) (s2 .skip-white2 .result) 39 q in (omega arith, omega (arith, ins3), omega arith, omega arith, omega arith, st .pre .0, st .pre .1)
+tree-requires-2 c κs = let x3 = c .before .before in let p3 = x3 .before in let s2 = p3 .before in let x2 = s2 .before in let ii = x2 .before in let p2 = ii .before in let x1 = p2 .before in let pk = x1 .before in let sw = pk .before in let st = sw .before .before .before .before in let a = st .args in let A = sw .skip-white .ensures in let h = sym (pk .peek .ensures) ∙ x1 .if1 .left in let ins = inside-at (a .text .now) (sw .skip-white .result) 39 h in let B = s2 .skip-white2 .ensures in let k = (ap inner (sym (p2 .peek2 .ensures)) ∙ sym (ii .is-inner .ensures) ∙ x2 .if2 .left) in let q = sym (p3 .peek3 .ensures) ∙ x3 .if3 .left in let ins3 = inside-at (a .text .now) (s2 .skip-white2 .result) 39 q in (omega arith, omega (arith, ins3), omega arith, omega arith, omega arith, st .pre .0, st .pre .1, st .pre .2)
 
 -- src/trees.rt:118:30
 enum-known-r : tie.Need-enum-known-r
@@ -79,8 +79,8 @@ returns-4 : tie.Need-returns-4
 returns-4 c = let p4 = c .before in let s3 = p4 .before in let kr = s3 .before .before in let b = kr .before .before in let x3 = b .before .before .before in let p3 = x3 .before in let s2 = p3 .before in let x2 = s2 .before in let ii = x2 .before in let p2 = ii .before in let x1 = p2 .before in let pk = x1 .before in let sw = pk .before in let st = sw .before .before .before .before in let a = st .args in let A = sw .skip-white .ensures in let h = sym (pk .peek .ensures) ∙ x1 .if1 .left in let ins = inside-at (a .text .now) (sw .skip-white .result) 39 h in let B = s2 .skip-white2 .ensures in let k = (ap inner (sym (p2 .peek2 .ensures)) ∙ sym (ii .is-inner .ensures) ∙ x2 .if2 .left) in let q = sym (p3 .peek3 .ensures) ∙ x3 .if3 .left in let ins3 = inside-at (a .text .now) (s2 .skip-white2 .result) 39 q in whole-open (a .text .now) (a .names .now) (sw .skip-white .result) (A .0) (A .2) _ _ _ _ h k (s2 .skip-white2 .result) (B .0) (B .2) q (b .tree2 .result) (b .tree2 .ensures) (kr .r .given .0 .1 .0) (kr .r .given .0 .0) (kr .r .given .1) (s3 .skip-white3 .result) (s3 .skip-white3 .ensures .0) (s3 .skip-white3 .ensures .2) (λ z. c .if4 .taken (p4 .peek4 .ensures ∙ z)) _ _
 
 -- src/trees.rt:123:40
-add-t28 : tie.Need-add-t28
-add-t28 c = let p4 = c .before in let s3 = p4 .before in let kr = s3 .before .before in let b = kr .before .before in let x3 = b .before .before .before in let p3 = x3 .before in let s2 = p3 .before in let x2 = s2 .before in let ii = x2 .before in let p2 = ii .before in let x1 = p2 .before in let pk = x1 .before in let sw = pk .before in let st = sw .before .before .before .before in let a = st .args in omega (arith, inside-at (a .text .now) (s3 .skip-white3 .result) 40 (sym (p4 .peek4 .ensures) ∙ c .if4 .left))
+add-t29 : tie.Need-add-t29
+add-t29 c = let p4 = c .before in let s3 = p4 .before in let kr = s3 .before .before in let b = kr .before .before in let x3 = b .before .before .before in let p3 = x3 .before in let s2 = p3 .before in let x2 = s2 .before in let ii = x2 .before in let p2 = ii .before in let x1 = p2 .before in let pk = x1 .before in let sw = pk .before in let st = sw .before .before .before .before in let a = st .args in omega (arith, inside-at (a .text .now) (s3 .skip-white3 .result) 40 (sym (p4 .peek4 .ensures) ∙ c .if4 .left))
 
 -- src/trees.rt:125:33
 enum-known-r-2 : tie.Need-enum-known-r-2
@@ -115,7 +115,7 @@ sentence-spec =
     skip-white-requires-3
     peek-requires-4
     returns-4
-    add-t28
+    add-t29
     enum-known-r-2
     returns-5
     returns-6)
