@@ -28,7 +28,7 @@ fn set_of(n: usize, at: usize) {
     say_right(rows::keeps(&mut s, at, n, &mask, &keys));
 }
 
-// The same held to a label, and cleared.
+// The same held to a label and to the rows above a key, and cleared.
 fn labels_of(n: usize, at: usize) {
     let mut s = [0u64; 24];
     let mut label = [0u16; 1024];
@@ -38,6 +38,7 @@ fn labels_of(n: usize, at: usize) {
     say_right(rows::starts(&mut s, at, n));
     say_right(rows::adds_last(&mut s, at, n, &keys));
     say_right(rows::keeps_label(&mut s, at, n, &label, &keys));
+    say_right(rows::keeps_after(&mut s, at, n, &keys));
     say_right(rows::clears(&mut s, rows::width(n)));
 }
 

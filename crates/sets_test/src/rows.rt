@@ -27,6 +27,9 @@ pub(crate) fn key_of(r: usize) -> u32 {
     ((r * 37 + 11) % 101) as u32
 }
 
+// A key that some rows have and some are above.
+pub(crate) const MIDDLE: u32 = 68;
+
 // Which rows a set must have: all below n, picked ones, of these some only, the last, none.
 pub(crate) fn wanted(kind: u8, n: usize, r: usize) -> bool {
     if n <= r {
@@ -58,6 +61,12 @@ pub(crate) fn wanted(kind: u8, n: usize, r: usize) -> bool {
     }
     if kind == 5 {
         return n - r == 1;
+    }
+    if kind == 6 {
+        if MIDDLE < key_of(r) {
+            return picked(1, r);
+        }
+        return false;
     }
     false
 }
@@ -245,6 +254,26 @@ pub(crate) fn keep_label(s: &mut [u64], at: usize, n: usize, label: &[u16], l: u
         return;
     }
     sets::keep_label(s, at, n, label, l);
+}
+
+pub(crate) fn keep_after(s: &mut [u64], at: usize, n: usize, keys: &[u32], own: u32) {
+    if 2000 < at {
+        return;
+    }
+    if 1024 < n {
+        return;
+    }
+    if keys.len() < n {
+        return;
+    }
+    let w = sets::width(n);
+    if 100 < w {
+        return;
+    }
+    if s.len() < at + w {
+        return;
+    }
+    sets::keep_after(s, at, n, keys, own);
 }
 
 pub(crate) fn clear(s: &mut [u64], k: usize) {
@@ -548,6 +577,17 @@ pub(crate) fn keeps_label(s: &mut [u64], at: usize, n: usize, label: &[u16], key
     add_picked(s, at, n, 1);
     keep_label(s, at, n, label, 1);
     holds(s, at, n, 4, keys)
+}
+
+// Some rows, also past row n, and of these those below n with a key above the middle.
+pub(crate) fn keeps_after(s: &mut [u64], at: usize, n: usize, keys: &[u32]) -> bool {
+    let w = width(n);
+    if 100 < w {
+        return false;
+    }
+    add_picked(s, at, w * 64, 1);
+    keep_after(s, at, n, keys, MIDDLE);
+    holds(s, at, n, 6, keys)
 }
 
 // The first k words zero, the others as before.
