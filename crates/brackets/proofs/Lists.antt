@@ -9,13 +9,13 @@ use native.Mathlib.Omega.{arith}
 use lib.ListN.{length, getD, take, drop, length-drop, drop-of-length-le, set, length-set, replicate, length-replicate}
 use Rattle.brackets.specs.Texts.{take-front, take-snoc, take-few}
 use lib.Seq.{drop-cons, getD-set-same, getD-set-other}
-use lib.Dec.{eqb}
-use borrow.Author.Tests.{eq-eqb, ne-eqb, lt-ltb, le-ltb}
+use lib.Dec.{ltb, eqb}
+use borrow.Author.Tests.{eq-eqb, ne-eqb, lt-ltb, le-ltb, ltb-true, ltb-false}
 use Rattle.meaning.specs.Tests.{_&_, _or_}
 use Rattle.meaning.specs.Names.{pick, onto, namesOf, tooMany, nameOf, same, placeFrom, labelNumber}
 use Rattle.brackets.specs.Reader.{letters, past}
 use Rattle.brackets.specs.Pieces.{letters-past}
-use Rattle.brackets.specs.Lines.{part, ahead, MarkedTo, Marked, FoundEnds, Missing, NotedBytes}
+use Rattle.brackets.specs.Lines.{part, ahead, MarkedTo, Marked, FoundEnds, NoneBegins, NotedBytes}
 
 -- ---- lines
 pub ahead-here : (s : List ℕ) (i : ℕ) → i < length s → getD s i 0 ≡ 10 → length (ahead (drop i s)) ≡ 0
@@ -290,29 +290,7 @@ unfolding part
 label-part s at e h =
     ap₂ (λ (n : ℕ) (u : List ℕ). take n u) (sym h) (sym (letters-past 64 (drop at s))) ∙ take-front (letters 64 (drop at s)) (past 64 (drop at s))
 
--- ---- bytes that no name has
-
--- no name begins with b
-unfoldable NoneBegins : ℕ → List (List ℕ) → Type 0
-NoneBegins b [] = Unit {0}
-NoneBegins b ([] ∷ names) = NoneBegins b names
-NoneBegins b ((y ∷ n) ∷ names) = (b ≡ y → ⊥) × NoneBegins b names
-
-begins-onto : (b x : ℕ) (names : List (List ℕ)) → (b ≡ x → ⊥) → NoneBegins b names → NoneBegins b (onto x names)
-unfolding onto NoneBegins
-begins-onto b x [] ne h = tt
-begins-onto b x ([] ∷ names) ne h = (ne, h)
-begins-onto b x ((y ∷ n) ∷ names) ne h = (ne, h .1)
-
-begins-not : (b : ℕ) (list : List ℕ) → Missing b list → NoneBegins b (namesOf list)
-unfolding namesOf NoneBegins pick
-begins-not b [] h = tt
-begins-not b (x ∷ list) h = go (eqb x 10) (begins-not b list (λ i l e. h (suc i) (omega arith) e))
-  where
-    go : (c : Bool) → NoneBegins b (namesOf list) → NoneBegins b (pick c ([] ∷ namesOf list) (onto x (namesOf list)))
-    go true r = r
-    go false r = begins-onto b x (namesOf list) (λ e. h zero (omega arith) (sym e)) r
-
+-- ---- bytes that no name begins with
 none-place : (b : ℕ) (rest : List ℕ) (names : List (List ℕ)) (k : ℕ) → NoneBegins b names → 65535 ≡ placeFrom k (b ∷ rest) names
 unfolding placeFrom NoneBegins same _&_ pick
 none-place b rest [] k h = refl
@@ -320,35 +298,46 @@ none-place b rest ([] ∷ names) k h = none-place b rest names (suc k) h
 none-place b rest ((y ∷ n) ∷ names) k h = none-place b rest names (suc k) (h .1) ∙ ap (λ (z : Bool). pick (z & same rest n) k (placeFrom (suc k) (b ∷ rest) names)) (sym (ne-eqb b y (h .0)))
 
 -- a label that begins with such a byte has no number
-pub number-none : (text list : List ℕ) (a b : ℕ) → a < b → b ≤ length text → (getD text a 0 ≡ 45 → ⊥) → (getD text a 0 ≡ 61 → ⊥) → Missing (getD text a 0) list → 65535 ≡ labelNumber list (part a b text)
+pub number-none : (text list : List ℕ) (a b : ℕ) → a < b → b ≤ length text → (getD text a 0 ≡ 45 → ⊥) → (getD text a 0 ≡ 61 → ⊥) → NoneBegins (getD text a 0) (namesOf list) → 65535 ≡ labelNumber list (part a b text)
 unfolding labelNumber nameOf part _or_ pick
 number-none text list a b l f dash equal none =
     let n : b - a ≡ suc (b - a - 1) = omega arith in
-    rw (n, drop-cons text a 0 (omega arith), ne-eqb (getD text a 0) 45 dash, ne-eqb (getD text a 0) 61 equal) (none-place (getD text a 0) _ (namesOf list) 0 (begins-not (getD text a 0) list none))
+    rw (n, drop-cons text a 0 (omega arith), ne-eqb (getD text a 0) 45 dash, ne-eqb (getD text a 0) 61 equal) (none-place (getD text a 0) _ (namesOf list) 0 none)
 
--- the bytes of the list up to i are noted
+-- a byte begins no name from i on where it is not the byte at i and begins no name behind the line's end e
+begins-more : (list : List ℕ) (i e b : ℕ) → e ≡ i + length (ahead (drop i list)) → i < length list → (b ≡ getD list i 0 → ⊥) → NoneBegins b (namesOf (drop (e + 1) list)) → NoneBegins b (namesOf (drop i list))
+unfolding NoneBegins
+begins-more list i e b h l ne r = go (ltb e (length list)) refl (ltb i e) refl
+  where
+    go : (closed : Bool) → ltb e (length list) ≡ closed → (long : Bool) → ltb i e ≡ long → NoneBegins b (namesOf (drop i list))
+    go false c long m = rw (line-none list i e h (ltb-false e (length list) c)) tt
+    go true c true m =
+        let k : e < length list = ltb-true e (length list) c in
+        rw (line-more list i e h (omega arith) k, part-cons list i e (ltb-true i e m) (omega (arith, k))) (ne, r)
+    go true c false m =
+        let k : e < length list = ltb-true e (length list) c in
+        rw (line-more list i e h (omega arith) k, part-none list i e (ltb-false i e m)) r
+
+-- the first bytes of the names up to i are noted: a byte that is not noted begins no name if it begins none from i on
 pub record NotedTo (list : List ℕ) (i : ℕ) (noted : List Bool) : Type 0 where
   pub size : length noted ≡ 256
-  pub missing : (b : ℕ) → b < 256 → getD noted b false ≡ false → (b ≡ 45 → ⊥) × (b ≡ 61 → ⊥) × ((j : ℕ) → j < i → getD list j 0 ≡ b → ⊥)
+  pub missing : (b : ℕ) → b < 256 → getD noted b false ≡ false → (b ≡ 45 → ⊥) × (b ≡ 61 → ⊥) × (NoneBegins b (namesOf (drop i list)) → NoneBegins b (namesOf list))
 
-pub noted-more : (list : List ℕ) (i : ℕ) (noted : List Bool) → getD list i 0 < 256 → NotedTo list i noted → NotedTo list (i + 1) (set noted (getD list i 0) true)
-noted-more list i noted l h = record { size = (simp length-set) ∙ h .size; missing = λ b m e. go b m (ℕ-discrete b (getD list i 0)) e }
+pub noted-more : (list : List ℕ) (i e : ℕ) (noted : List Bool) → e ≡ i + length (ahead (drop i list)) → i < length list → getD list i 0 < 256 → NotedTo list i noted → NotedTo list (e + 1) (set noted (getD list i 0) true)
+noted-more list i e noted a k l h = record { size = (simp length-set) ∙ h .size; missing = λ b m f. go b m (ℕ-discrete b (getD list i 0)) f }
   where
     inside : getD list i 0 < length noted
     inside = omega (arith, h .size)
 
-    go : (b : ℕ) → b < 256 → Dec (b ≡ getD list i 0) → getD (set noted (getD list i 0) true) b false ≡ false → (b ≡ 45 → ⊥) × (b ≡ 61 → ⊥) × ((j : ℕ) → j < i + 1 → getD list j 0 ≡ b → ⊥)
-    go b m (yes q) e = absurd (false≢true (sym e ∙ (rw q (getD-set-same noted (getD list i 0) true false inside))))
-    go b m (no q) e =
-        let w = h .missing b m (sym (getD-set-other noted (getD list i 0) b true false q) ∙ e) in
-        (w .0, w .1, λ j k d. at j k d (ℕ-discrete j i))
-      where
-        at : (j : ℕ) → j < i + 1 → getD list j 0 ≡ b → Dec (j ≡ i) → ⊥
-        at j k d (yes z) = q (sym d ∙ ap (λ (y : ℕ). getD list y 0) z)
-        at j k d (no z) = h .missing b m (sym (getD-set-other noted (getD list i 0) b true false q) ∙ e) .2 j (omega (arith, z)) d
+    go : (b : ℕ) → b < 256 → Dec (b ≡ getD list i 0) → getD (set noted (getD list i 0) true) b false ≡ false → (b ≡ 45 → ⊥) × (b ≡ 61 → ⊥) × (NoneBegins b (namesOf (drop (e + 1) list)) → NoneBegins b (namesOf list))
+    go b m (yes q) f = absurd (false≢true (sym f ∙ (rw q (getD-set-same noted (getD list i 0) true false inside))))
+    go b m (no q) f =
+        let w = h .missing b m (sym (getD-set-other noted (getD list i 0) b true false q) ∙ f) in
+        (w .0, w .1, λ r. w .2 (begins-more list i e b a k q r))
 
 pub noted-all : (list : List ℕ) (i : ℕ) (noted : List Bool) → length list ≤ i → NotedTo list i noted → NotedBytes list noted
-noted-all list i noted l h = record { size = h .size; missing = λ b m e. let w = h .missing b m e in (w .0, w .1, λ j k d. w .2 j (omega arith) d) }
+unfolding NoneBegins
+noted-all list i noted l h = record { size = h .size; missing = λ b m f. let w = h .missing b m f in (w .0, w .1, w .2 (rw (line-end list i l) tt)) }
 
 pub noted-start : (list : List ℕ) → NotedTo list 0 (set (set (replicate 256 false) 45 true) 61 true)
 noted-start list = record {
@@ -356,7 +345,7 @@ noted-start list = record {
   missing = λ b m e. (
     λ q. false≢true (sym e ∙ (ap (λ (k : ℕ). getD (set (set (replicate 256 false) 45 true) 61 true) k false) q ∙ (getD-set-other (set (replicate 256 false) 45 true) 61 45 true false (λ z. omega (arith, z)) ∙ getD-set-same (replicate 256 false) 45 true false (omega (arith, length-replicate {A = Bool} 256 false))))),
     λ q. false≢true (sym e ∙ (ap (λ (k : ℕ). getD (set (set (replicate 256 false) 45 true) 61 true) k false) q ∙ getD-set-same (set (replicate 256 false) 45 true) 61 true false (simp length-set (omega (arith, length-replicate {A = Bool} 256 false))))),
-    λ j k d. omega (arith, k),
+    λ r. r,
   );
 }
 

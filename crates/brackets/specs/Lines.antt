@@ -31,11 +31,13 @@ pub record FoundEnds (list : List ℕ) (n : ℕ) (ends : List ℕ) : Type 0 wher
   pub few : n ≤ 32 → Marked list 0 (take n ends)
   pub many : 32 < n → 32 < length (namesOf list)
 
--- no byte of the list is b
-abbrev pub Missing : ℕ → List ℕ → Type 0
-Missing b list = (i : ℕ) → i < length list → getD list i 0 ≡ b → ⊥
+-- no name begins with b
+unfoldable pub NoneBegins : ℕ → List (List ℕ) → Type 0
+NoneBegins b [] = Unit {0}
+NoneBegins b ([] ∷ names) = NoneBegins b names
+NoneBegins b ((y ∷ n) ∷ names) = (b ≡ y → ⊥) × NoneBegins b names
 
--- a byte that is not noted is none of the list, and neither - nor =
+-- a byte that is not noted begins no name, and is neither - nor =
 pub record NotedBytes (list : List ℕ) (noted : List Bool) : Type 0 where
   pub size : length noted ≡ 256
-  pub missing : (b : ℕ) → b < 256 → getD noted b false ≡ false → (b ≡ 45 → ⊥) × (b ≡ 61 → ⊥) × Missing b list
+  pub missing : (b : ℕ) → b < 256 → getD noted b false ≡ false → (b ≡ 45 → ⊥) × (b ≡ 61 → ⊥) × NoneBegins b (namesOf list)

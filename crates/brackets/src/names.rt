@@ -99,7 +99,7 @@ fn place(text: &[u8], a: usize, b: usize, list: &[u8], ends: &[usize]) -> u16
     65535
 }
 
-// Notes which bytes the list has. - and = are noted, too: before them a name ends, and may be empty.
+// Notes the bytes that names begin with. - and = are noted, too: before them a name ends, and may be empty.
 pub(crate) fn find_bytes(list: &[u8]) -> [bool; 256]
     ensures { λ m. ⌜ NotedBytes (now (list .entry)) m ⌝ }
 {
@@ -110,12 +110,13 @@ pub(crate) fn find_bytes(list: &[u8]) -> [bool; 256]
     while i < list.len() {
         let b = list[i];
         noted[b as usize] = true;
-        i += 1;
+        let e = line_end(list, i);
+        i = e + 1;
     }
     noted
 }
 
-// The number of the label from a up to b. Most labels begin with a byte that no name has.
+// The number of the label from a up to b. Most labels begin with a byte that no name begins with.
 pub(crate) fn label_number(
     text: &[u8],
     a: usize,
