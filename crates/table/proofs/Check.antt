@@ -1,23 +1,24 @@
--- Why the table check is right: the size, the post numbers, the three-row rule by the largest closed post number, and the answer. Assumes nothing.
+-- Why the table check is right: the size, the post numbers, the tree by the ends of its rows, and the answer. Assumes nothing.
 use mathlib.Core.Path.{_≡_, refl, sym, ap, _∙_}
-use mathlib.Core.Bool.{Bool, true, false, cond, false≢true}
+use mathlib.Core.Bool.{Bool, true, false, false≢true}
 use mathlib.Core.Logic.{_⊎_, inl, inr, ⊎-elim}
 use mathlib.Core.List.{List}
-use Prim.Native.Nat.{ℕ, _+_, _≤_, _<_}
+use Prim.Native.Nat.{ℕ, suc, _+_, _-_, _≤_, _<_}
 use native.Mathlib.Omega.{arith}
 use native.Mathlib.Numerals.{add-one}
 use lib.Dec.{ltb, eqb}
 use lib.ListN.{length, getD, set}
 use lib.Seq.{getD-set-same, getD-set-other}
-use borrow.Author.Tests.{ltb-true, ltb-false, eqb-true, eqb-false, lt-ltb, le-ltb, eq-eqb}
+use borrow.Author.Tests.{ltb-true, ltb-false, eqb-true, eqb-false, lt-ltb, eq-eqb}
 use Rattle.meaning.specs.Tests.{Is, _&_, _or_, non, every, some}
-use Rattle.meaning.specs.Table.{post, isSized, isNumbered, isNested}
+use Rattle.meaning.specs.Table.{post, isSized, isNumbered, isNested, isTree}
 use Rattle.meaning.specs.Entries.{lowest, tableGrounds, tableSays, tableAnswer}
 use Rattle.meaning.specs.declared.Refusal.the-variants.{Columns, PostNumbers, ThreeRows}
 use Rattle.meaning.specs.declared.TableAnswer.the-variants.{Tree as Accept, Refused}
-use Rattle.theory.specs.Tests.{and-l, and-r, and-in, not-is, is-not, not-so, below-suc, every-at, every-in, some-is, some-in}
-use Rattle.table.specs.Rows.{isOnce, Stays, Open}
-use Rattle.table.proofs.Stack.{compare, set-new, left}
+use Rattle.theory.specs.Tests.{and-l, and-r, and-in, not-is, is-not, not-so, below-suc, every-at, every-in, same-test, some-is, some-in, count-same}
+use Rattle.theory.specs.Trees.{Tree, tree-is, tree-in, under-is}
+use Rattle.table.specs.Rows.{isOnce, Stays}
+use Rattle.table.proofs.Stack.{compare, Open, each-now, taken-now, above}
 
 -- ---- equal columns of 1 to 1,024 rows
 
@@ -115,101 +116,72 @@ module _ (t : List ℕ) where
   unfolding isOnce isNumbered _&_
   numbered-so x h e = rw (← h, e, add-one)
 
--- ---- the three-row rule
+-- ---- a tree: the ends of the rows
 
-module _ (t stack : List ℕ) (count stay closed : ℕ) where
-  pub closed-first : (y : ℕ) → stay < count → y ≡ getD stack stay 0 → post t y ≡ cond (ltb stay count) (post t (getD stack stay 0)) closed
-  closed-first y l e = rw (lt-ltb stay count l, e)
+-- each number below n is the post number of a row
+onto : (t : List ℕ) → Tree t → (y : ℕ) → y < length t → (r : ℕ) × (r < length t) × (post t r ≡ y)
+onto t T y l = go (some (length t) (λ k. eqb (post t k) y)) refl
+  where
+    go : (b : Bool) → some (length t) (λ k. eqb (post t k) y) ≡ b → (r : ℕ) × (r < length t) × (post t r ≡ y)
+    go true e = let w = some-is _ _ e in (w .0, w .1, eqb-true _ _ (w .2))
+    go false e =
+        let same = count-same (length t) (λ k. ltb (post t k) (suc y)) (λ k. ltb (post t k) y) (λ k m. same-test _ _ (less k m) (λ f. lt-ltb (post t k) (suc y) (omega (arith, ltb-true (post t k) y f)))) in
+        absurd (omega (arith, same, under-is (length t) (post t) (T .below) (T .once) (suc y) (omega arith), under-is (length t) (post t) (T .below) (T .once) y (omega arith)))
+      where
+        less : (k : ℕ) → k < length t → Is (ltb (post t k) (suc y)) → Is (ltb (post t k) y)
+        less k m f =
+            ⊎-elim
+            (λ u. lt-ltb _ _ u)
+            (λ u. absurd (false≢true (sym e ∙ some-in (length t) (λ k. eqb (post t k) y) k m (eq-eqb _ _ u))))
+            (below-suc {k = post t k} {n = y} (ltb-true _ _ f))
 
-  pub closed-before : count ≤ stay → closed ≡ cond (ltb stay count) (post t (getD stack stay 0)) closed
-  closed-before l = rw (le-ltb stay count l)
+pub tree-so : (t : List ℕ) → Tree t → true ≡ isTree t
+tree-so t T = sym (tree-in t T)
 
--- of the rows below i: `closed` is the largest post number of a closed row, or 0; no open row is below it; no three rows break the rule
-pub record Closed (t : List ℕ) (i : ℕ) (stack : List ℕ) (count closed : ℕ) : Type 0 where
-  pub largest : (a b : ℕ) → a < b → b < i → post t a < post t b → post t a ≤ closed
-  pub some-row : (closed ≡ 0) ⊎ ((a : ℕ) × (b : ℕ) × (a < b) × (b < i) × (post t a < post t b) × (post t a ≡ closed))
-  pub under : (k : ℕ) → k < count → closed ≤ post t (getD stack k 0)
-  pub fine : (a b c : ℕ) → a < b → b < c → c < i → post t c < post t a → post t a < post t b → ⊥
+tree-not : (t : List ℕ) → (Tree t → ⊥) → false ≡ isTree t
+tree-not t h = sym (not-so _ (λ e. h (tree-is t e)))
 
-pub closed-none : (t stack : List ℕ) → Closed t 0 stack 0 0
-closed-none t stack = record {
-  largest = λ a b l m h. absurd (omega arith);
-  some-row = inl refl;
-  under = λ k l. absurd (omega arith);
-  fine = λ a b c l m k. absurd (omega arith);
-}
+-- row 0 does not end at the last row
+pub root-not : (t : List ℕ) (x : ℕ) → x ≡ post t 0 → (x + 1 ≡ length t → ⊥) → false ≡ isTree t
+root-not t x e h = tree-not t (λ T. h (omega (arith, T .root, e)))
 
-module _ (t stack : List ℕ) (i count stay closed : ℕ) (O : Open t i stack count) (C : Closed t i stack count closed) (S : Stays t stack count (post t i) stay)
-    (above : closed ≤ post t i) where
-  -- what the largest closed number becomes
-  record Then (now : ℕ) : Type 0 where
-    pub up : closed ≤ now
-    pub low : now ≤ post t i
-    pub closes : (k : ℕ) → stay ≤ k → k < count → post t (getD stack k 0) ≤ now
-    pub leaves : (k : ℕ) → k < stay → now ≤ post t (getD stack k 0)
-    pub some-row : (now ≡ 0) ⊎ ((a : ℕ) × (b : ℕ) × (a < b) × (b < i + 1) × (post t a < post t b) × (post t a ≡ now))
+module _ (t ends : List ℕ) (i count stay : ℕ) (O : Open t i ends count) (S : Stays ends count i stay) (l : i < length t) where
+  -- a row that ends before itself has the post number of a closed row
+  pub end-before : post t i + stay < i → false ≡ isTree t
+  end-before h = let w = taken-now t ends i count stay O S (post t i) h in tree-not t (λ T. T .once (w .0) i (w .1) l (w .2))
 
-  then : (b : Bool) → ltb stay count ≡ b → Then (cond b (post t (getD stack stay 0)) closed)
-  then true e =
-      let l = ltb-true stay count e in
-      record {
-        up = C .under stay l;
-        low = omega (arith, S .closes stay (omega arith) l);
-        closes = λ k m n. ⊎-elim (λ u. O .falling stay k u n) (λ u. let e : k ≡ stay = omega arith in rw e (omega arith)) (compare stay k);
-        leaves = λ k m. O .falling k stay m l;
-        some-row = inr (getD stack stay 0, i, O .rows stay l, omega arith, S .closes stay (omega arith) l, refl);
-      }
-  then false e =
-      let l = ltb-false stay count e in
-      record {
-        up = omega arith;
-        low = above;
-        closes = λ k m n. absurd (omega arith);
-        leaves = λ k m. C .under k (omega (arith, S .most));
-        some-row = ⊎-elim (λ u. inl u) (λ w. inr (w .0, w .1, w .2, omega (arith, w .3), w .4, w .5)) (C .some-row);
-      }
-
-  pub closed-more : (now : ℕ) → now ≡ cond (ltb stay count) (post t (getD stack stay 0)) closed → stay < length stack →
-      Closed t (i + 1) (set stack stay i) (stay + 1) now
-  closed-more now e room = record {
-    largest = λ a b l m h. ⊎-elim (λ u. omega (arith, T .up, C .largest a b l u h)) (λ u. last a (rw u at l) (rw u at h) (O .each a (rw u at l))) (below-suc {k = b} {n = i} (omega arith));
-    some-row = T .some-row;
-    under = λ k l.
-        ⊎-elim
-        (λ m. rw (getD-set-other stack stay k i 0 (λ f. omega arith)) (T .leaves k m))
-        (λ m. rw (set-new stack stay k i m room) (T .low))
-        (below-suc {k = k} {n = stay} (omega arith));
-    fine = λ a b c l m k u w.
-        ⊎-elim (λ v. C .fine a b c l m v u w) (λ v. let d = C .largest a b l (rw v at m) w in let f : post t i < post t a = rw v at u in omega arith) (below-suc {k = c} {n = i} (omega arith));
-  }
+  -- of a row that ends behind its parent, the parent has the same post number, or they and the row that is closed next break the rule
+  pub end-behind : getD ends (stay - 1) 0 < post t i + stay → false ≡ isTree t
+  end-behind h = tree-not t (λ T. ⊎-elim (λ u. broken T u (onto t T (i - stay) (omega arith))) (λ u. T .once (p .0) i (p .1) l (omega (arith, u, p .2, h, S .root))) (compare (post t (p .0)) (post t i)))
     where
-      T : Then now
-      T = rw e (then (ltb stay count) refl)
+      p : (r : ℕ) × (r < i) × (post t r + (stay - 1) ≡ getD ends (stay - 1) 0)
+      p = O .rows (stay - 1) (omega (arith, S .root, S .most))
 
-      last : (a : ℕ) → a < i → post t a < post t i → ((b : ℕ) × (a < b) × (b < i) × (post t a < post t b)) ⊎ ((k : ℕ) × (k < count) × (getD stack k 0 ≡ a)) → post t a ≤ now
-      last a l h (inl w) = omega (arith, T .up, C .largest a (w .0) (w .1) (w .2) (w .3))
-      last a l h (inr w) =
+      early : (r : ℕ) → r < i → post t r ≡ i - stay → ⊥
+      early r m e =
           ⊎-elim
-          (λ u. let f : post t i ≤ post t a = rw (w .2) at (left t stack i count stay O S (w .0) u) in absurd (omega arith))
-          (λ u. rw (w .2) at (T .closes (w .0) u (w .1)))
-          (compare (w .0) stay)
+          (λ u. omega (arith, u, e, S .most, O .most))
+          (λ w. omega (arith, e, w .1, w .2, above t ends i count stay O S (w .0) (w .1), S .last, S .most, O .most))
+          (each-now t ends i count stay O S r m)
 
-nested-is : (t : List ℕ) → Is (isNested t) → (a b c : ℕ) → a < b → b < c → c < length t → post t c < post t a → post t a < post t b → ⊥
-unfolding isNested
-nested-is t h a b c l m k u v = not-is _ (every-at b _ (every-at c _ (every-at (length t) _ h c k) b m) a l) (and-in _ _ (lt-ltb _ _ u) (lt-ltb _ _ v))
+      broken : Tree t → post t (p .0) < post t i → (r : ℕ) × (r < length t) × (post t r ≡ i - stay) → ⊥
+      broken T u w =
+          ⊎-elim
+          (λ m. early (w .0) m (w .2))
+          (λ m. ⊎-elim
+          (λ n. T .nested (p .0) i (w .0) (p .1) n (w .1) (omega (arith, w .2, p .2, S .last, S .root, S .most, O .most)) u)
+          (λ n. omega (arith, ap (post t) (let e : w .0 ≡ i = omega arith in e), w .2, u, p .2, S .last, S .root, S .most, O .most))
+          (compare i (w .0)))
+          (compare (w .0) i)
 
-nested-in : (t : List ℕ) → ((a b c : ℕ) → a < b → b < c → c < length t → post t c < post t a → post t a < post t b → ⊥) → Is (isNested t)
-unfolding isNested
-nested-in t h =
-    every-in (length t) _ (λ c k. every-in c _ (λ b m. every-in b _ (λ a l. is-not _ (λ e. h a b c l m k (ltb-true _ _ (and-l _ _ e)) (ltb-true _ _ (and-r _ _ e))))))
+-- a tree keeps both rules, and what is no tree breaks the second where it keeps the first
+pub tree-both : (t : List ℕ) → true ≡ isTree t → (true ≡ isNumbered t) × (true ≡ isNested t)
+unfolding isTree
+tree-both t h = (sym (and-l _ _ (sym h)), sym (and-r _ _ (sym h)))
 
-module _ (t stack : List ℕ) (i count closed : ℕ) (C : Closed t i stack count closed) where
-  -- a row below a closed one breaks the rule
-  pub nested-broken : i < length t → post t i < closed → false ≡ isNested t
-  nested-broken l h = sym (not-so _ (λ n. ⊎-elim (λ e. omega arith) (λ w. nested-is t n (w .0) (w .1) i (w .2) (w .3) l (omega (arith, w .5)) (w .4)) (C .some-row)))
-
-  pub nested-kept : length t ≤ i → true ≡ isNested t
-  nested-kept l = sym (nested-in t (λ a b c u v w. C .fine a b c u v (omega arith)))
+pub not-nested : (t : List ℕ) → false ≡ isTree t → true ≡ isNumbered t → false ≡ isNested t
+unfolding isTree _&_
+not-nested t h k = h ∙ rw (← k)
 
 -- ---- the answer of the check
 

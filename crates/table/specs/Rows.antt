@@ -1,9 +1,9 @@
--- What the contracts of this crate say of open rows and of filled columns, in the words of crates/meaning. Assumes nothing: these are definitions.
+-- What the contracts of this crate say of the ends of rows and of filled columns, in the words of crates/meaning. Assumes nothing: these are definitions.
 use mathlib.Core.Path.{_≡_}
 use mathlib.Core.Bool.{Bool}
 use mathlib.Core.List.{List}
 use mathlib.Core.Logic.{_⊎_}
-use Prim.Native.Nat.{ℕ, suc, _+_, _≤_, _<_}
+use Prim.Native.Nat.{ℕ, _+_, _-_, _≤_, _<_}
 use lib.Dec.{ltb, eqb}
 use lib.ListN.{length, getD}
 use Rattle.meaning.specs.Tests.{Is, _&_, non, every}
@@ -19,20 +19,12 @@ pub record Accepted (t : List ℕ) : Type 0 where
 unfoldable pub isOnce : List ℕ → Bool
 isOnce t = every (length t) (λ r. ltb (post t r) (length t) & every r (λ q. non (eqb (post t q) (post t r))))
 
--- a row with post number x leaves the first `stay` of the open rows open, and closes those behind, whose post numbers are smaller
-pub record Stays (t stack : List ℕ) (count x stay : ℕ) : Type 0 where
+-- of `count` rows with these ends the first `stay` end at row i or behind it, and the others before it
+pub record Stays (ends : List ℕ) (count i stay : ℕ) : Type 0 where
+  pub root : 0 < stay
   pub most : stay ≤ count
-  pub closes : (k : ℕ) → stay ≤ k → k < count → post t (getD stack k 0) < x
-  pub leaves : (k : ℕ) → suc k ≡ stay → x ≤ post t (getD stack k 0)
-
--- of the rows below i: `stack` holds at its first `count` places, rising, rows with falling post numbers; and each other row
--- is closed, by a later row with a larger post number
-pub record Open (t : List ℕ) (i : ℕ) (stack : List ℕ) (count : ℕ) : Type 0 where
-  pub most : count ≤ i
-  pub rows : (k : ℕ) → k < count → getD stack k 0 < i
-  pub rising : (j k : ℕ) → j < k → k < count → getD stack j 0 < getD stack k 0
-  pub falling : (j k : ℕ) → j < k → k < count → post t (getD stack k 0) ≤ post t (getD stack j 0)
-  pub each : (a : ℕ) → a < i → ((b : ℕ) × (a < b) × (b < i) × (post t a < post t b)) ⊎ ((k : ℕ) × (k < count) × (getD stack k 0 ≡ a))
+  pub ended : (k : ℕ) → stay ≤ k → k < count → getD ends k 0 < i
+  pub last : i ≤ getD ends (stay - 1) 0
 
 -- a column in which the places `from` to n - 1 hold for each row a number that fits it, and the others are as before
 pub record Filled (from n : ℕ) (Fits : ℕ → ℕ → Type 0) (before after : List ℕ) : Type 0 where

@@ -6,9 +6,8 @@
 use meaning::Refusal;
 use meaning::TableAnswer;
 ghost use mathlib.Core.Path.{_≡_};
-ghost use mathlib.Core.Bool.{cond};
 ghost use Prim.Native.Nat.{ℕ, _≤_, _<_};
-ghost use lib.Dec.{ltb, eqb};
+ghost use lib.Dec.{eqb};
 ghost use lib.ListN.{length, getD};
 ghost use Rattle.meaning.specs.Table as tree;
 ghost use Rattle.meaning.specs.Entries.{tableAnswer};
@@ -23,20 +22,20 @@ fn wide(x: u16) -> usize
     x as usize
 }
 
-// The table check: refusals 1, 2 and 3, the lowest first. One pass for each rule.
+// The table check: refusals 1, 2 and 3, the lowest first. Which rule a table breaks is asked only of one that is no tree.
 pub fn check_table(post: &[u16], label: &[u16]) -> TableAnswer
     ensures { λ r. ⌜ r ≡ tableAnswer (now (post .entry)) (now (label .entry)) ⌝ }
 {
     if !is_sized(post, label) {
         return TableAnswer::Refused(Refusal::Columns);
     }
-    if !is_numbered(post) {
-        return TableAnswer::Refused(Refusal::PostNumbers);
+    if is_tree(post) {
+        return TableAnswer::Tree;
     }
-    if !is_nested(post) {
+    if is_numbered(post) {
         return TableAnswer::Refused(Refusal::ThreeRows);
     }
-    TableAnswer::Tree
+    TableAnswer::Refused(Refusal::PostNumbers)
 }
 
 fn is_sized(post: &[u16], label: &[u16]) -> bool
@@ -82,56 +81,58 @@ fn is_once(post: &[u16]) -> bool
     true
 }
 
-// The three-row rule. `stack` holds the rows that no later row has closed by a larger post number, their post numbers
-// falling; `closed` is the largest post number of a closed row. A row below it breaks the rule.
-fn is_nested(post: &[u16]) -> bool
-    requires { ⌜ length (now post) ≤ 1024 ⌝ }
-    ensures { λ r. ⌜ r ≡ tree.isNested (now (post .entry)) ⌝ }
+// Whether the post numbers are those of a tree. Most tables are small, and few places are made faster than many.
+fn is_tree(post: &[u16]) -> bool
+    requires { ⌜ (0 < length (now post)) × (length (now post) ≤ 1024) ⌝ }
+    ensures { λ r. ⌜ r ≡ tree.isTree (now (post .entry)) ⌝ }
 {
-    let mut stack = [0u16; 1024];
-    let mut count: usize = 0;
-    let mut closed: u16 = 0;
-    let mut row: usize = 0;
+    if post.len() <= 256 {
+        let mut few = [0u16; 256];
+        return ends_fit(post, &mut few);
+    }
+    let mut ends = [0u16; 1024];
+    ends_fit(post, &mut ends)
+}
+
+// In a tree the rows below a row are those after it up to row post + level: its end. `ends` holds, by level, the ends of
+// the rows that the row before lies below, and its own. The table is a tree where no row's end lies before the row or behind
+// the end of its parent.
+fn ends_fit(post: &[u16], ends: &mut [u16]) -> bool
+    requires { ⌜ (0 < length (now post)) × (length (now post) ≤ 1024) × (length (now post) ≤ length (now ends)) ⌝ }
+    ensures { λ r. ⌜ r ≡ tree.isTree (now (post .entry)) ⌝ }
+{
+    if wide(post[0]) + 1 != post.len() {
+        return false;
+    }
+    ends[0] = post[0];
+    let mut count: usize = 1;
+    let mut row: usize = 1;
     while row < post.len() {
-        let x = post[row];
-        if x < closed {
+        let level = staying(ends, count, row);
+        let end = wide(post[row]) + level;
+        if end < row {
             return false;
         }
-        let stay = staying(post, &stack, count, x);
-        closed = last_closed(post, &stack, count, stay, closed);
-        stack[stay] = row as u16;
-        count = stay + 1;
+        if wide(ends[level - 1]) < end {
+            return false;
+        }
+        ends[level] = end as u16;
+        count = level + 1;
         row += 1;
     }
     true
 }
 
-// How many of the open rows a row with post number x leaves open: it closes those with smaller numbers, which stand last.
-fn staying(post: &[u16], stack: &[u16; 1024], count: usize, x: u16) -> usize
-    requires { ⌜ (count ≤ 1024) × ((k : ℕ) → k < count → getD (now stack) k 0 < length (now post)) ⌝ }
-    ensures { λ r. ⌜ Stays (now (post .entry)) (now (stack .entry)) count x r ⌝ }
+// How many of the rows with these ends a row lies below: those that end before it stand last.
+fn staying(ends: &[u16], count: usize, row: usize) -> usize
+    requires { ⌜ (0 < count) × (count ≤ length (now ends)) × (row ≤ getD (now ends) 0 0) ⌝ }
+    ensures { λ r. ⌜ Stays (now (ends .entry)) count row r ⌝ }
 {
     let mut stay = count;
-    while 0 < stay {
-        let last = wide(stack[stay - 1]);
-        if x <= post[last] {
-            return stay;
-        }
+    while wide(ends[stay - 1]) < row {
         stay -= 1;
     }
-    0
-}
-
-// The first row that is closed now has the largest post number of all that are closed.
-fn last_closed(post: &[u16], stack: &[u16; 1024], count: usize, stay: usize, closed: u16) -> u16
-    requires { ⌜ (count ≤ 1024) × ((k : ℕ) → k < count → getD (now stack) k 0 < length (now post)) ⌝ }
-    ensures { λ r. ⌜ r ≡ cond (ltb stay count) (tree.post (now (post .entry)) (getD (now (stack .entry)) stay 0)) closed ⌝ }
-{
-    if stay < count {
-        let first = wide(stack[stay]);
-        return post[first];
-    }
-    closed
+    stay
 }
 
 // A row's parent: of the row before it and the rows above that one, the nearest with a larger post number. The parents of the
