@@ -4,12 +4,12 @@ use mathlib.Core.Bool.{true, false, false≢true}
 use mathlib.Core.List.{List}
 use Prim.Native.Nat.{ℕ, zero, suc, _+_, _-_, _≤_, _<_}
 use native.Mathlib.Numerals.{add-one}
-use native.Mathlib.Decide.{decLt}
+use native.Mathlib.Decide.{decLt, ℕ-discrete}
 use native.Mathlib.Omega.{arith}
 use lib.ListN.{length, getD, drop, drop-of-length-le}
 use Rattle.brackets.specs.Texts.{inside}
 use lib.Seq.{drop-cons}
-use lib.Dec.{eqb}
+use lib.Dec.{eqb, ltb}
 use borrow.Author.Tests.{lt-ltb, le-ltb, ne-eqb}
 use Rattle.meaning.specs.Tests.{Is, _&_, _or_, non}
 use Rattle.meaning.specs.Names.{pick}
@@ -46,17 +46,31 @@ pub inner-low : (b : ℕ) → b ≤ 32 → false ≡ inner b
 unfolding inner _&_
 inner-low b h = rw (le-ltb 32 b h)
 
-pub inner-no : (b : ℕ) → b ≡ 40 → false ≡ inner b
+inner-no : (b : ℕ) → b ≡ 40 → false ≡ inner b
 unfolding inner _&_ non
 inner-no b e = rw e
 
-pub inner-no-41 : (b : ℕ) → b ≡ 41 → false ≡ inner b
+inner-no-41 : (b : ℕ) → b ≡ 41 → false ≡ inner b
 unfolding inner _&_ non
 inner-no-41 b e = rw e
 
-pub inner-yes : (b : ℕ) → 32 < b → (b ≡ 40 → ⊥) → (b ≡ 41 → ⊥) → true ≡ inner b
+inner-yes : (b : ℕ) → 32 < b → (b ≡ 40 → ⊥) → (b ≡ 41 → ⊥) → true ≡ inner b
 unfolding inner _&_ non
 inner-yes b h i j = rw (lt-ltb 32 b h, ne-eqb b 40 i, ne-eqb b 41 j)
+
+pub inner-high : (b : ℕ) → 41 < b → true ≡ inner b
+inner-high b h = inner-yes b (omega arith) (λ e. omega arith) (λ e. omega arith)
+
+pub inner-between : (b : ℕ) → 32 < b → b ≤ 41 → ltb b 40 ≡ inner b
+inner-between b h k = go (decLt b 40)
+  where
+    go : Dec (b < 40) → ltb b 40 ≡ inner b
+    go (yes l) = lt-ltb b 40 l ∙ inner-yes b h (λ e. omega arith) (λ e. omega arith)
+    go (no l) = le-ltb b 40 (omega (arith, l)) ∙ last (ℕ-discrete b 40)
+      where
+        last : Dec (b ≡ 40) → false ≡ inner b
+        last (yes e) = inner-no b e
+        last (no n) = inner-no-41 b (omega (arith, n, l))
 
 -- ---- scanning
 pub white-inside : (s : List ℕ) (i : ℕ) → Is (white (getD s i 0)) → i < length s

@@ -30,19 +30,17 @@ pub(crate) fn is_white(b: u8) -> bool
     false
 }
 
+// Nearly every letter stands behind the parentheses, which follow each other: one comparison settles it.
 pub(crate) fn is_inner(b: u8) -> bool
     ensures { λ r. ⌜ r ≡ inner b ⌝ }
 {
+    if b')' < b {
+        return true;
+    }
     if b <= b' ' {
         return false;
     }
-    if b == b'(' {
-        return false;
-    }
-    if b == b')' {
-        return false;
-    }
-    true
+    b < b'('
 }
 
 // Where the white space at a place ends.
