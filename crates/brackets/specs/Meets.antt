@@ -1,39 +1,25 @@
 -- What the readers in src answer and leave in the columns, against the reader that computes. Assumes nothing: these are definitions.
 use mathlib.Core.Path.{_≡_}
-use mathlib.Core.List.{List, []}
-use Prim.Native.Nat.{ℕ, _+_, _-_, _≤_}
-use lib.ListN.{length, take, drop}
+use mathlib.Core.Bool.{false}
+use mathlib.Core.List.{List}
+use Prim.Native.Nat.{ℕ, _+_, _-_, _≤_, _<_}
+use lib.ListN.{length, getD, set, take, drop}
 use lib.Dec.{leb}
 use lib.Seq.{sets}
-use Rattle.meaning.specs.Tests.{_&_}
+use Rattle.meaning.specs.Tests.{Is, _&_}
 use Rattle.meaning.specs.Names.{pick, labelNumber}
-use Rattle.meaning.specs.Sentences.{Tree, Trees, leaf, node, posts, postss, labels, labelss, Sentence, treeOf, sentenceLeaves}
+use Rattle.meaning.specs.Sentences.{inner, posts, postss, labels, labelss, Sentence, treeOf, sentenceLeaves}
 use Rattle.meaning.specs.declared.Refusal.the-variants.{ShortBuffer, Brackets, TooLarge}
 use Rattle.meaning.specs.declared.SentenceAnswer.{SentenceAnswer}
 use Rattle.meaning.specs.declared.SentenceAnswer.the-variants.{Read, Refused}
-use Rattle.brackets.specs.Reader.{skip, Got, got, wrong, over, lost, then, letters, past, blanks, empty, heads, readTree, readTrees, reading}
+use Rattle.brackets.specs.Reader.{skip, Got, got, wrong, over, lost, past, worded, readTree, readTrees, reading}
 
--- a body: a word, or trees
-pub data Body : Type 0 where
-  a-word : (word after : List ℕ) → Body
-  some-trees : Trees → Body
-
-unfoldable pub as-tree : List ℕ → List ℕ → Body → Tree
-as-tree l b (a-word w a) = leaf l b w a
-as-tree l b (some-trees ts) = node l b ts
-
-unfoldable pub body-posts : ℕ → Body → List ℕ
-body-posts n (a-word w a) = []
-body-posts n (some-trees ts) = postss n ts
-
-unfoldable pub body-labels : (List ℕ → ℕ) → Body → List ℕ
-body-labels num (a-word w a) = []
-body-labels num (some-trees ts) = labelss num ts
-
-unfoldable pub bodyOf : List ℕ → Got Trees → Got Body
-bodyOf w g =
-    pick (heads 40 w) (then g (λ ts. got (some-trees ts)))
-    (pick (empty (letters 64 w)) (wrong w) (got (a-word (letters 64 w) (blanks (past 64 w))) (skip (past 64 w))))
+-- letters at a place, up to the first byte that is none
+pub record Letters (s : List ℕ) (at e : ℕ) : Type 0 where
+  pub begins : at ≤ e
+  pub in-text : e ≤ length s
+  pub are : (k : ℕ) → at ≤ k → k < e → Is (inner (getD s k 0))
+  pub stop : inner (getD s e 0) ≡ false
 
 -- read: rows from `rows` on, with post numbers ps and label numbers ls, up to the place of the rest
 pub record Read-as (s : List ℕ) (rows : ℕ) (rest ps ls : List ℕ) (r : SentenceAnswer) (post post′ lab lab′ : List ℕ) : Type 0 where
@@ -53,14 +39,40 @@ Meets ps ls s rows (wrong rest) r post post′ lab lab′ = r ≡ Refused (Brack
 Meets ps ls s rows (over rest) r post post′ lab lab′ = r ≡ Refused (TooLarge (length s - length rest))
 Meets ps ls s rows lost r post post′ lab lab′ = Unit {0}
 
--- a tree behind its opening parenthesis at `at`, and a body at `at`, with `levels` left and `rows` read: for every fuel
+-- a tree behind its opening parenthesis at `at`, and a body of trees whose first opening parenthesis is at `at`, with
+-- `levels` left and `rows` read: for every fuel
 abbrev pub MeetsTree : List ℕ → List ℕ → ℕ → ℕ → ℕ → SentenceAnswer → List ℕ → List ℕ → List ℕ → List ℕ → Type 0
 MeetsTree s list at levels rows r post post′ lab lab′ =
     (f : ℕ) → Meets (posts (rows - (64 - levels))) (labels (labelNumber list)) s rows (readTree f (drop at s) levels (1024 - rows)) r post post′ lab lab′
 
 abbrev pub MeetsBody : List ℕ → List ℕ → ℕ → ℕ → ℕ → SentenceAnswer → List ℕ → List ℕ → List ℕ → List ℕ → Type 0
 MeetsBody s list at levels rows r post post′ lab lab′ =
-    (f : ℕ) → Meets (body-posts (rows - (64 - levels))) (body-labels (labelNumber list)) s rows (bodyOf (drop at s) (readTrees f (drop 1 (drop at s)) levels (1024 - rows))) r post post′ lab lab′
+    (f : ℕ) → Meets (postss (rows - (64 - levels))) (labelss (labelNumber list)) s rows (readTrees f (drop (at + 1) s) levels (1024 - rows)) r post post′ lab lab′
+
+-- a label from `at` up to e within the limits, and white space behind it up to w
+pub record LabelRead (s : List ℕ) (at levels rows e w : ℕ) : Type 0 where
+  pub deep : levels ≡ 0 → ⊥
+  pub room : rows < 1024
+  pub some : at < e
+  pub label-end : drop e s ≡ past 64 (drop at s)
+  pub gap : e < w
+  pub gap-end : drop w s ≡ skip (drop e s)
+  pub in-text : w ≤ length s
+
+-- the label of a tree, or a refusal that is the tree's
+unfoldable pub MeetsLabel : List ℕ → ℕ → ℕ → ℕ → SentenceAnswer → Type 0
+MeetsLabel s at levels rows (Read e w) = LabelRead s at levels rows e w
+MeetsLabel s at levels rows (Refused why) = (list post post′ lab lab′ : List ℕ) → MeetsTree s list at levels rows (Refused why) post post′ lab lab′
+
+-- a closing parenthesis at `at`, and the post number of its row with `rows` read
+pub record Closed (s : List ℕ) (at rows levels row : ℕ) (r : SentenceAnswer) (post post′ : List ℕ) : Type 0 where
+  pub shut : getD s at 0 ≡ 41 → (r ≡ Read rows (at + 1)) × (post′ ≡ set post row (rows - 1 - (64 - levels)))
+  pub not-shut : (getD s at 0 ≡ 41 → ⊥) → r ≡ Refused (Brackets at)
+
+-- a leaf's word at `at` and its closing parenthesis, whatever its label
+abbrev pub MeetsLeaf : List ℕ → ℕ → ℕ → ℕ → SentenceAnswer → List ℕ → List ℕ → Type 0
+MeetsLeaf s at levels row r post post′ =
+    (list l b lab : List ℕ) → Meets (posts (row - (64 - levels))) (labels (labelNumber list)) s row (worded l b (drop at s)) r post post′ lab (set lab row (labelNumber list l))
 
 -- the whole reading
 unfoldable pub sent-posts : Sentence → List ℕ

@@ -3,7 +3,8 @@ ghost use mathlib.Core.Path.{_≡_};
 ghost use Prim.Native.Nat.{ℕ, _≤_};
 ghost use lib.ListN.{length, getD, drop};
 ghost use Rattle.meaning.specs.Sentences.{white, inner};
-ghost use Rattle.brackets.specs.Reader.{skip, past};
+ghost use Rattle.brackets.specs.Reader.{skip};
+ghost use Rattle.brackets.specs.Meets.{Letters};
 
 // The byte at a place, and 0 past the end: no byte of a sentence is 0.
 pub(crate) fn peek(text: &[u8], at: usize) -> u8
@@ -55,20 +56,17 @@ pub(crate) fn skip_white(text: &[u8], at: usize) -> usize
     i
 }
 
-// Where a label or word at a place ends, after 64 bytes at the latest.
+// Where the letters at a place end. Who reads a label or word refuses more than 64: the loop has one bound.
 pub(crate) fn letters_end(text: &[u8], at: usize) -> usize
     requires { ⌜ at ≤ length (now text) ⌝ }
-    ensures { λ e. ⌜ (drop e (now (text .entry)) ≡ past 64 (drop at (now (text .entry)))) × (at ≤ e) × (e ≤ length (now (text .entry))) ⌝ }
+    ensures { λ e. ⌜ Letters (now (text .entry)) at e ⌝ }
 {
     let mut i = at;
-    let mut left: usize = 64;
-    while 0 < left {
-        if is_inner(peek(text, i)) {
-            i += 1;
-            left -= 1;
-        } else {
+    while i < text.len() {
+        if !is_inner(text[i]) {
             return i;
         }
+        i += 1;
     }
     i
 }
