@@ -348,7 +348,3 @@ noted-start list = record {
     λ r. r,
   );
 }
-
-pub not-noted : (b : Bool) → not b ≡ true → b ≡ false
-not-noted true e = absurd (false≢true e)
-not-noted false e = refl

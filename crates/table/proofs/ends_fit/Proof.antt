@@ -1,6 +1,6 @@
 -- `table::ends_fit` meets its contract: the ends of the open rows, and what they say of the rows passed. Assumes nothing.
-use mathlib.Core.Path.{_≡_, sym, _∙_}
-use Prim.Native.Nat.{suc, _+_, _-_, _≤_, _<_}
+use mathlib.Core.Path.{_≡_, _∙_}
+use Prim.Native.Nat.{suc, _-_, _≤_, _<_}
 use native.Mathlib.Omega.{arith}
 use lib.ListN.{length, getD, length-set}
 use borrow.Author.Needs.{needs}

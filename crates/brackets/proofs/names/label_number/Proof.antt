@@ -1,7 +1,8 @@
 -- The proof of `label_number` of src/names.rt. Assumes nothing.
 use native.Mathlib.Omega.{arith}
 use lib.ListN.{getD}
-use Rattle.brackets.proofs.Lists.{number-of, number-none, not-noted}
+use Rattle.brackets.proofs.Lists.{number-of, number-none}
+use Rattle.brackets.proofs.Scanning.{not-taken}
 use borrow.Author.Needs.{needs}
 use Rattle.brackets.proofs.names.label_number.Statement.{statement}
 use Rattle.brackets.proofs.names.label_number.Tie as tie
@@ -22,7 +23,7 @@ returns c =
     let k = c .before .before in
     let h = k .before .before .before .before in
     let a = h .args in
-    let m = h .pre .4 .missing (getD (a .text .now) (a .a) 0) (omega (arith, k .shared-slice-known4 .given (a .a))) (not-noted _ (c .if1 .taken)) in
+    let m = h .pre .4 .missing (getD (a .text .now) (a .a) 0) (omega (arith, k .shared-slice-known4 .given (a .a))) (not-taken _ (c .if1 .taken)) in
     number-none (a .text .now) (a .list .now) (a .a) (a .b) (h .pre .0) (h .pre .1) (m .0) (m .1) (m .2)
 
 name-end-requires : tie.Need-name-end-requires
