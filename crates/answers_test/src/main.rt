@@ -1,5 +1,7 @@
 // Yes or no, search and listing: refusals, buffers, the examples of document 01, and random trees and queries against a
 // part that tries every choice. Writes a line for each group: how many checks of it are wrong.
+#![tactic(auto)]
+
 mod ask;
 mod costs;
 mod examples;

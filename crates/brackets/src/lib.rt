@@ -1,4 +1,6 @@
 // Reads a bracketed sentence from the front of a text into two lent columns.
+#![tactic(auto)]
+
 ghost use Rattle.std.specs.Prelude.{◌≡◌, ℕ, ◌≤◌, length};
 ghost use Rattle.std.proofs.Math.Seq.{paste};
 ghost use Rattle.meaning.specs.Sentences.{SentenceRead, sentence_rest, blank};

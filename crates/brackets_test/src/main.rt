@@ -1,5 +1,7 @@
 // Tries the sentence reader: writes the number of each trial that fails, whether the places are those found by trying, and at
 // the end `done`.
+#![tactic(auto)]
+
 mod seen;
 mod texts;
 mod tries;

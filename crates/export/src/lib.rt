@@ -3,6 +3,8 @@
 // A query comes in as its number of variables and three lists: the head; the label conditions, two numbers each (variable,
 // label); the axis conditions, three numbers each (code, first variable, second variable). `told` gets the answer: document
 // 01's number (0 for no refusal), the place, the values, then zeros.
+#![tactic(auto)]
+
 mod lent;
 mod words;
 

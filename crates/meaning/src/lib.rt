@@ -1,5 +1,6 @@
 // The types that every crate shares, in document 01's words.
 // What the numbers, places and values of the answers are is said in specs/Told.antt.
+#![tactic(auto)]
 
 // An axis condition: the axis by its code, and two variables, perhaps the same one twice.
 #[derive(Drop)]

@@ -1,4 +1,6 @@
 // The public face: a tree as a view over the caller's two columns, the axis conditions as a lent list of records.
+#![tactic(auto)]
+
 ghost use Rattle.std.specs.Prelude.{◌≡◌, [], ℕ, ◌≤◌, ◌<◌, length, get_or};
 ghost use Rattle.meaning.specs.Query.{no-condition};
 ghost use Rattle.meaning.specs.Sentences.{SentenceRead};

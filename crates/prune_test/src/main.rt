@@ -1,5 +1,7 @@
 // Pruning: refusals, buffers, the examples of document 01, and random trees and queries against pruning by hand.
 // Writes a line for each group: how many checks of it are wrong.
+#![tactic(auto)]
+
 mod ask;
 mod examples;
 mod large;

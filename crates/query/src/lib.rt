@@ -1,4 +1,6 @@
 // The query check: refusals 4, 5 and 6, and the axis set that an accepted query takes.
+#![tactic(auto)]
+
 ghost use Rattle.std.specs.Prelude.{◌≡◌, ℕ, ◌≤◌, ◌<◌, ltb};
 ghost use Rattle.meaning.specs.Axes.{set_of};
 ghost use Rattle.meaning.specs.Query.{asked, is_counted, is_named, is_axis_named, is_head_named};

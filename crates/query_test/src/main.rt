@@ -1,4 +1,6 @@
 // The query check on both sides of each limit. Writes a line for each group of checks: 0 where all is right.
+#![tactic(auto)]
+
 mod queries;
 
 fn say(n: u64) {

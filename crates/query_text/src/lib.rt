@@ -1,4 +1,6 @@
 // Reads a query text: its query by value, and its label names into a lent buffer.
+#![tactic(auto)]
+
 mod body;
 mod filling;
 mod head;

@@ -1,4 +1,6 @@
 // Tries the reader of query texts on both sides of each line; writes a line for each part whose answers are as expected.
+#![tactic(auto)]
+
 mod cases;
 mod limits;
 mod tries;

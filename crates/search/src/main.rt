@@ -1,4 +1,6 @@
 // Searches a treebank: reads a query text and then sentences from standard input, and prints the answers.
+#![tactic(auto)]
+
 mod lines;
 mod step;
 

@@ -1,4 +1,6 @@
 // Each function of sets against a plain loop over rows. Writes a line for each group of checks: 0 where all is right.
+#![tactic(auto)]
+
 mod rows;
 
 fn say(n: u64) {

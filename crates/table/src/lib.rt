@@ -3,6 +3,8 @@
 //
 // Only check_table takes any input. The other functions are inner layers: their callers hold an accepted table, so they
 // require one (specs/Rows.antt, Accepted) and do not pay for the check again.
+#![tactic(auto)]
+
 ghost use Rattle.std.specs.Prelude.{◌≡◌, ℕ, ◌≤◌, ◌<◌, eqb, length, get_or};
 ghost use Rattle.meaning.specs.Table as tree;
 ghost use Rattle.meaning.specs.Entries.{table_answer};

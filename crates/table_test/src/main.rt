@@ -1,4 +1,6 @@
 // Runs the table check, the columns and the axis tests, and prints what they say; the expected output stands in `stdout`.
+#![tactic(auto)]
+
 mod plain;
 mod print;
 
