@@ -3,7 +3,7 @@
 #![tactic(auto)]
 
 // An axis condition: the axis by its code, and two variables, perhaps the same one twice.
-#[derive(Drop)]
+#[derive(Clone, Copy)]
 pub struct Condition {
     pub code: u8,
     pub first: u8,
@@ -11,14 +11,14 @@ pub struct Condition {
 }
 
 // A label condition: the variable's row must carry the label.
-#[derive(Drop)]
+#[derive(Clone, Copy)]
 pub struct LabelCondition {
     pub variable: u8,
     pub label: u16,
 }
 
 // A query by value. Of each array the first places count, as many as its number says.
-#[derive(Drop)]
+#[derive(Clone, Copy)]
 pub struct Query {
     pub variables: usize,
     pub head_count: usize,
@@ -30,7 +30,7 @@ pub struct Query {
 }
 
 // Why an input is refused; the reasons in the order of document 01's numbers 1 to 13, with their places.
-#[derive(Drop)]
+#[derive(Clone, Copy)]
 pub enum Refusal {
     Columns,
     PostNumbers,
@@ -48,28 +48,28 @@ pub enum Refusal {
 }
 
 // The table check.
-#[derive(Drop)]
+#[derive(Clone, Copy)]
 pub enum TableAnswer {
     Tree,
     Refused(Refusal),
 }
 
 // The query check: the number of the axis set.
-#[derive(Drop)]
+#[derive(Clone, Copy)]
 pub enum QueryAnswer {
     Accepted(u8),
     Refused(Refusal),
 }
 
 // Pruning: the strikings.
-#[derive(Drop)]
+#[derive(Clone, Copy)]
 pub enum PruneAnswer {
     Pruned(u64),
     Refused(Refusal),
 }
 
 // Yes or no.
-#[derive(Drop)]
+#[derive(Clone, Copy)]
 pub enum YesNoAnswer {
     Yes,
     No,
@@ -77,7 +77,7 @@ pub enum YesNoAnswer {
 }
 
 // The search after a tuple.
-#[derive(Drop)]
+#[derive(Clone, Copy)]
 pub enum SearchAnswer {
     Found,
     Nothing,
@@ -85,7 +85,7 @@ pub enum SearchAnswer {
 }
 
 // How a listing ends.
-#[derive(Drop)]
+#[derive(Clone, Copy)]
 pub enum Ending {
     Finished,
     Full,
@@ -93,7 +93,7 @@ pub enum Ending {
 }
 
 // A listing: its ending, the number of tuples, the strikings used.
-#[derive(Drop)]
+#[derive(Clone, Copy)]
 pub enum ListAnswer {
     Listed(Ending, usize, u64),
     Refused(Refusal),
@@ -101,20 +101,20 @@ pub enum ListAnswer {
 
 // The reader of query texts: the bytes of the names, line feeds included. The query stands beside it, because an enum
 // holds no array; on a refusal it is the blank query.
-#[derive(Drop)]
+#[derive(Clone, Copy)]
 pub enum QueryTextAnswer {
     Read(usize),
     Refused(Refusal),
 }
 
-#[derive(Drop)]
+#[derive(Clone, Copy)]
 pub struct QueryReading {
     pub answer: QueryTextAnswer,
     pub query: Query,
 }
 
 // The reader of bracketed sentences: the rows, and where the sentence ends.
-#[derive(Drop)]
+#[derive(Clone, Copy)]
 pub enum SentenceAnswer {
     Read(usize, usize),
     Refused(Refusal),
