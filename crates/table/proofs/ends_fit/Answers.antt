@@ -48,9 +48,6 @@ shape_of-ends-then-wide-end c =  c.loop-row.invariant.1 ∙ length-set c.args.en
 pub returns-then-wide-end : goal.returns-then-wide-end
 returns-then-wide-end c =  end-behind _ _ c.loop-row.row c.loop-row.count c.staying-level.result c.loop-row.invariant.2 c.staying-level.ensures c.loop-row-test.true (omega (arith, c.wide-in-loop-row.ensures, c.wide-in-loop-row-2.ensures, c.if-wide-end.true))
 
-pub overflow_cast-ends : goal.overflow_cast-ends
-overflow_cast-ends c =  omega (arith, c.wide-in-loop-row-2.ensures, c.if-wide-end.false, c.type_inv.ends (c.staying-level.result - 1))
-
 pub offset_bounds-ends-level-in-loop-row : goal.offset_bounds-ends-level-in-loop-row
 offset_bounds-ends-level-in-loop-row c =  omega (arith, (let it : c.staying-level.result ≤ c.loop-row.row = omega (arith, c.staying-level.ensures.most, c.loop-row.invariant.2.most) in it), c.loop-row.invariant.0, c.requires.1)
 

@@ -1,0 +1,17 @@
+-- `query::is_head_named` meets its contract. The loop's invariant: every place passed is as it must be. Assumes nothing.
+use mathlib.Core.Path.{◌≡◌, sym, ◌∙◌}
+use mathlib.Core.Bool.{true}
+use Prim.Native.Nat.{◌≤◌, ◌-◌}
+use borrow.Author.Rules.{rules}
+use borrow.Author.Tests.{not-true, not-false}
+use Rattle.meaning.specs.Tests.{every}
+use Rattle.meaning.specs.Query.{is_head_named}
+use Rattle.query.specs.Check.{is_head}
+use Rattle.query.proofs.Laws.{every_none, every_more, every_done, every_not}
+use Rattle.query.proofs.is_head_named.Given as goal
+
+abbrev pub invariant-loop-i : goal.invariant-loop-i
+invariant-loop-i l = (l.i ≤ l.n) × (every l.i (λ i. is_head_named l.v l.head i) ≡ true)
+
+abbrev pub decreases-loop-i : goal.decreases-loop-i
+decreases-loop-i l = l.n - l.i
