@@ -16,15 +16,15 @@ loop-i-init c = (search rules, every_none _)
 pub returns-then-not-is_label_named : goal.returns-then-not-is_label_named
 unfolding are_labels_named
 returns-then-not-is_label_named c =  let a = c.args in
-    every_not (λ i. ltb (label_at a.t1 i).variable a.v) a.n c.loop-i.i c.loop-i-test.true (sym c.is_label_named.ensures ∙ not-true _ c.if-not-is_label_named.true-raw)
+    every_not (λ i. ltb (label_at a.labels i).variable a.v) a.n c.loop-i.i c.loop-i-test.true (sym c.is_label_named.ensures ∙ not-true _ c.if-not-is_label_named.true-raw)
 
 pub loop-i-preserved : goal.loop-i-preserved
 loop-i-preserved c =  let a = c.args in (
       search rules,
-      every_more (λ i. ltb (label_at a.t1 i).variable a.v) c.loop-i.i c.loop-i.invariant.1 (sym c.is_label_named.ensures ∙ not-false _ c.if-not-is_label_named.false-raw),
+      every_more (λ i. ltb (label_at a.labels i).variable a.v) c.loop-i.i c.loop-i.invariant.1 (sym c.is_label_named.ensures ∙ not-false _ c.if-not-is_label_named.false-raw),
     )
 
 pub returns : goal.returns
 unfolding are_labels_named
 returns c =  let a = c.args in
-    every_done (λ i. ltb (label_at a.t1 i).variable a.v) a.n c.loop-i.i c.loop-i.invariant.0 c.loop-i.invariant.1 c.loop-i-test.false
+    every_done (λ i. ltb (label_at a.labels i).variable a.v) a.n c.loop-i.i c.loop-i.invariant.0 c.loop-i.invariant.1 c.loop-i-test.false
