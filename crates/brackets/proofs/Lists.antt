@@ -1,7 +1,7 @@
 -- The functions on parts, lines and names, step by step. Assumes nothing.
 use mathlib.Core.Path.{◌≡◌, refl, sym, ap, ap₂, ◌∙◌, subst}
-use mathlib.Core.Bool.{Bool, true, false, not, false≢true}
-use mathlib.Core.List.{List, [], ◌∷◌, ◌++◌, append_assoc, append_nil}
+use mathlib.Core.Bool.{Bool, true, false, false≢true}
+use mathlib.Core.List.{List, [], ◌∷◌, ◌++◌, append_assoc, append-nil}
 use Prim.Native.Nat.{ℕ, zero, suc, ◌+◌, ◌-◌, ◌≤◌, ◌<◌}
 use native.Mathlib.Numerals.{add-one}
 use native.Mathlib.Decide.{ℕ_discrete}
@@ -256,7 +256,7 @@ module _ (s : List ℕ) (a i b : ℕ) (h : a ≤ i) (m : i < b) (k : b ≤ lengt
   name_cons = ap name_of (part_cons s i b m k)
 
   name_stop : name_of (part i b s) ≡ [] → part a i s ≡ name_of (part a b s)
-  name_stop e = sym (append_nil (part a i s)) ∙ ap (λ (y : List ℕ). part a i s ++ y) (sym e) ∙ q
+  name_stop e = sym (append-nil (part a i s)) ∙ ap (λ (y : List ℕ). part a i s ++ y) (sym e) ∙ q
 
   pub name_dash : get_or s i 0 ≡ 45 → part a i s ≡ name_of (part a b s)
   unfolding pick ◌or◌
@@ -278,7 +278,7 @@ name_start s a b = ap (λ (y : List ℕ). y ++ name_of (part a b s)) (part_none 
 
 pub name_end : (s : List ℕ) (a i b : ℕ) → b ≤ i → part a i s ++ name_of (part i b s) ≡ name_of (part a b s) → part a i s ≡ name_of (part a b s)
 unfolding name_of
-name_end s a i b h q = sym (append_nil (part a i s)) ∙ ap (λ (y : List ℕ). part a i s ++ name_of y) (sym (part_none s i b h)) ∙ q
+name_end s a i b h q = sym (append-nil (part a i s)) ∙ ap (λ (y : List ℕ). part a i s ++ name_of y) (sym (part_none s i b h)) ∙ q
 
 pub number_of : (list label name : List ℕ) (r : ℕ) → name ≡ name_of label → r ≡ place_from 0 name (names_of list) → r ≡ label_number list label
 unfolding label_number

@@ -40,9 +40,9 @@ module _ (s f r : List ℕ) (e : s ≡ f ++ r) where
 
 -- ---- from what the reader promises to the definition
 eleven : (s r : List ℕ) (P : Partial spell legal s r) → Is (allowed P.x) → run s start ≡ stopped r → Is11 s (length s - length r)
-eleven s r P A document_posts =
+eleven s r P A D =
     record {
-      none = stop_none s r document_posts;
+      none = stop_none s r D;
       in_text = omega arith;
       before = subst (Begins allowed) (sym (up_to s P.front r P.cut)) (record { sentence = P.x; passes = A; others = P.v ++ []; text = P.text [] });
       stops = λ h. stops r refl (λ e. let z = ap length e in omega arith);
@@ -51,7 +51,7 @@ eleven s r P A document_posts =
     stops : (r' : List ℕ) → r ≡ r' → (r' ≡ [] → ⊥) → Begins legal (take (suc (length s - length r)) s) → ⊥
     stops [] e n B = n refl
     stops (b ∷ u) e n B =
-        stop_ends P.front b u (ap (λ (y : List ℕ). run (P.front ++ y) start) (sym e) ∙ ap (λ (y : List ℕ). run y start) (sym P.cut) ∙ document_posts ∙ ap stopped e)
+        stop_ends P.front b u (ap (λ (y : List ℕ). run (P.front ++ y) start) (sym e) ∙ ap (λ (y : List ℕ). run y start) (sym P.cut) ∙ D ∙ ap stopped e)
         (subst (Begins legal) (one_more s P.front r P.cut b u e) B)
 
 -- what the reader promises of a text: beside the definition, that the limits counted on the text are broken at a place of 12
