@@ -10,11 +10,8 @@ use lib.ListN.{length, get_or}
 use borrow.Author.Tests.{le-leb, lt-leb, eq-eqb, ne_eqb}
 use Rattle.meaning.specs.Tests.{◌&◌, ◌or◌}
 use Rattle.meaning.specs.Texts.{pick, Range, ◌to◌, within, among}
-use types.Run.{OneOf, miss as missed}
-use denote.Enum.Declared.{tag_of}
 use Rattle.query_text.specs.Machine.{letter, stopped, finished}
 use Rattle.query_text.specs.declared.machine.Now.{Now}
-use Rattle.query_text.specs.contracts.machine.Now.{the_type}
 use Rattle.query_text.specs.declared.machine.Now.TheVariants.{Stop, Start, Asked, Opened, InHead, HeadComma, Closed, Less, Wants, NameC, NameN, NameF, Child, Sibling, Following, Signs, Signed, AxisOpened, From, Label, LastOpened, Last, Done, End}
 
 pub within_yes : (a z b : ℕ) → a ≤ b → leb b z ≡ within (a to z) b
@@ -73,9 +70,9 @@ pub misspelled : (w : List ℕ) (j b : ℕ) (z : Bool) (go : Now) → z ≡ lett
 unfolding pick
 misspelled w j b z go e t = rw (sym e ∙ t)
 
-pub not_stop : (q : Now) → OneOf (1 ∷ 2 ∷ 3 ∷ 4 ∷ 5 ∷ 6 ∷ 7 ∷ 8 ∷ 9 ∷ 10 ∷ 11 ∷ 12 ∷ 13 ∷ 14 ∷ 15 ∷ 16 ∷ 17 ∷ 18 ∷ 19 ∷ 20 ∷ 21 ∷ 22 ∷ 23 ∷ []) (tag_of the_type q) → false ≡ stopped q
+pub not_stop : (q : Now) → (q ≡ Stop → ⊥) → false ≡ stopped q
 unfolding stopped
-not_stop Stop h = absurd (missed (1 ∷ 2 ∷ 3 ∷ 4 ∷ 5 ∷ 6 ∷ 7 ∷ 8 ∷ 9 ∷ 10 ∷ 11 ∷ 12 ∷ 13 ∷ 14 ∷ 15 ∷ 16 ∷ 17 ∷ 18 ∷ 19 ∷ 20 ∷ 21 ∷ 22 ∷ 23 ∷ []) 0 tt h)
+not_stop Stop h = absurd (h refl)
 not_stop Start h = refl
 not_stop Asked h = refl
 not_stop Opened h = refl
@@ -100,7 +97,7 @@ not_stop (Last n) h = refl
 not_stop Done h = refl
 not_stop End h = refl
 
-pub not_end : (q : Now) → OneOf (0 ∷ 1 ∷ 2 ∷ 3 ∷ 4 ∷ 5 ∷ 6 ∷ 7 ∷ 8 ∷ 9 ∷ 10 ∷ 11 ∷ 12 ∷ 13 ∷ 14 ∷ 15 ∷ 16 ∷ 17 ∷ 18 ∷ 19 ∷ 20 ∷ 21 ∷ 22 ∷ []) (tag_of the_type q) → false ≡ finished q
+pub not_end : (q : Now) → (q ≡ End → ⊥) → false ≡ finished q
 unfolding finished
 not_end Stop h = refl
 not_end Start h = refl
@@ -125,7 +122,7 @@ not_end (Label n) h = refl
 not_end LastOpened h = refl
 not_end (Last n) h = refl
 not_end Done h = refl
-not_end End h = absurd (missed (0 ∷ 1 ∷ 2 ∷ 3 ∷ 4 ∷ 5 ∷ 6 ∷ 7 ∷ 8 ∷ 9 ∷ 10 ∷ 11 ∷ 12 ∷ 13 ∷ 14 ∷ 15 ∷ 16 ∷ 17 ∷ 18 ∷ 19 ∷ 20 ∷ 21 ∷ 22 ∷ []) 23 tt h)
+not_end End h = absurd (h refl)
 
 -- a chain of tests: what each says, and what follows
 pub yes : (z t : Bool) (a b r : Now) → z ≡ t → z ≡ true → r ≡ a → r ≡ pick t a b

@@ -1,7 +1,7 @@
 -- The query, filled word by word, is the query of what the words say. Assumes nothing.
 use mathlib.Core.Path.{◌≡◌, refl, sym, ap, ◌∙◌}
 use mathlib.Core.Bool.{Bool, true, false}
-use mathlib.Core.List.{List, [], ◌∷◌, ◌++◌, append_assoc, append_nil, map}
+use mathlib.Core.List.{List, [], ◌∷◌, ◌++◌, append_assoc, append-nil, map}
 use Prim.Native.Nat.{ℕ, zero, suc, ◌+◌, ◌-◌, ◌≤◌, ◌<◌}
 use native.Mathlib.Nat.{not-suc-le-zero}
 use native.Mathlib.Omega.{arith}
@@ -211,9 +211,9 @@ module _ (m : ℕ) (vs ns : List (List ℕ)) where
   all : (ws : List (List ℕ)) → All ws
   unfolding fill_words fill_word phrases with_word pick ends_as labels_in axes_in
   all [] hs ls cs i =
-      sym (shown-same (ap (λ (x : List ℕ). hs ++ x) (no-heads vs i) ∙ append_nil hs)
-      (ap (λ (x : List LabelCondition). ls ++ (x ++ [])) (no-labels vs i) ∙ append_nil ls)
-      (ap (λ (x : List Condition). cs ++ (x ++ [])) (no-axes vs i) ∙ append_nil cs))
+      sym (shown-same (ap (λ (x : List ℕ). hs ++ x) (no-heads vs i) ∙ append-nil hs)
+      (ap (λ (x : List LabelCondition). ls ++ (x ++ [])) (no-labels vs i) ∙ append-nil ls)
+      (ap (λ (x : List Condition). cs ++ (x ++ [])) (no-axes vs i) ∙ append-nil cs))
   all (w ∷ ws) hs ls cs i = go (is_variable w) (has axis-names w) refl (all ws)
     where
       go : (z y : Bool) → has axis-names w ≡ y → All ws

@@ -1,8 +1,8 @@
 -- The legal texts are the texts that are written from a head and one or more conditions: of each legal text the head and
 -- the conditions are those that it says. Assumes nothing.
 use mathlib.Core.Path.{◌≡◌, refl, sym, ap, ◌∙◌, subst}
-use mathlib.Core.Logic.{◌⊎◌, inl, inr, ⊎_elim}
-use mathlib.Core.List.{List, [], ◌∷◌, ◌++◌, append_assoc, append_nil, map}
+use mathlib.Core.Logic.{inl, inr, ⊎_elim}
+use mathlib.Core.List.{List, [], ◌∷◌, ◌++◌, append_assoc, append-nil, map}
 use Prim.Native.Nat.{ℕ, zero, suc}
 use Rattle.meaning.specs.Axes.{bytes}
 use Rattle.meaning.specs.Texts.{Form, byte, ◌then◌, ◌∣◌, Has, Times, word, spelt}
@@ -28,7 +28,7 @@ module _ {T : Type 0} (f : Form) (w : T → Form) (G : T → Type 0) where
   unfolding Has Times with_commas ◌~◌ All
   items_from out zero a d h k =
       let y = out a h in
-      record { one = y.0; others = []; one_good = y.1; others_good = tt; text = subst (Has (w y.0)) (sym (ap (λ (x : List ℕ). a ++ x) k ∙ append_nil a)) y.2 }
+      record { one = y.0; others = []; one_good = y.1; others_good = tt; text = subst (Has (w y.0)) (sym (ap (λ (x : List ℕ). a ++ x) k ∙ append-nil a)) y.2 }
   items_from out (suc n) a d h k =
       let y = out a h in
       let c = k.3 in
@@ -52,7 +52,7 @@ module _ {T : Type 0} (f : Form) (w : T → Form) (G : T → Type 0) where
   listed-from : ((x : T) → G x → (a : List ℕ) → Has (w x) a → Has f a) → (x : T) (xs : List T) → G x → All G xs → (a : List ℕ) → Has (with_commas (map w (x ∷ xs))) a
       → (b : List ℕ) × (d : List ℕ) × (a ≡ b ++ d) × Has f b × ((n : ℕ) × Times (Has next) n d)
   unfolding Has Times with_commas ◌~◌ All
-  listed-from back x [] g gs a h = (a, [], sym (append_nil a), back x g a h, (0, refl))
+  listed-from back x [] g gs a h = (a, [], sym (append-nil a), back x g a h, (0, refl))
   listed-from back x (y ∷ xs) g gs a h =
       let c = h.4 in
       let m = c.4 in

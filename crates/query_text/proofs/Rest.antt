@@ -1,12 +1,12 @@
 -- What may still follow in each state of the machine. Assumes nothing.
 use mathlib.Core.Path.{◌≡◌, refl, sym, ap, ◌∙◌, subst}
-use mathlib.Core.Logic.{◌⊎◌, inl, inr, ⊎_elim}
+use mathlib.Core.Logic.{inl, inr, ⊎_elim}
 use mathlib.Core.List.{List, [], ◌∷◌, ◌++◌}
-use Prim.Native.Nat.{ℕ, ◌+◌, ◌-◌}
+use Prim.Native.Nat.{ℕ}
 use lib.ListN.{drop}
 use Rattle.meaning.specs.Tests.{Is, ◌&◌, ◌or◌}
 use Rattle.meaning.specs.Axes.{bytes, axes}
-use Rattle.meaning.specs.Texts.{pick, ◌to◌, Form, none, empty, byte, ◌then◌, ◌∣◌, many, Has, just, word, up_to, any_of}
+use Rattle.meaning.specs.Texts.{pick, Form, none, empty, byte, ◌then◌, ◌∣◌, many, Has, just, word, up_to, any_of}
 use Rattle.meaning.specs.Places.{some_byte, alive, place}
 use Rattle.meaning.specs.Texts.{spelt}
 use Rattle.meaning.specs.QueryTexts.{blank, lower, in_variable, upper, in_label, variable, label, axis, axis-names, blanks, ◌~◌, listed, head, condition, query}

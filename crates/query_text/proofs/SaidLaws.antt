@@ -2,9 +2,9 @@
 -- conditions, and no others. Assumes nothing.
 use mathlib.Core.Path.{◌≡◌, refl, sym, ap, ◌∙◌, subst}
 use mathlib.Core.Bool.{Bool, true, false, false≢true}
-use mathlib.Core.Logic.{◌⊎◌, ⊎_elim}
-use mathlib.Core.List.{List, [], ◌∷◌, ◌++◌, append_assoc, append_nil, map}
-use Prim.Native.Nat.{ℕ, zero, suc, ◌+◌, ◌<◌}
+use mathlib.Core.Logic.{⊎_elim}
+use mathlib.Core.List.{List, [], ◌∷◌, ◌++◌, append_assoc, append-nil, map}
+use Prim.Native.Nat.{ℕ, zero, suc, ◌<◌}
 use native.Mathlib.Nat.{not-suc-le-zero}
 use native.Mathlib.Omega.{arith}
 use lib.Dec.{ltb}
@@ -12,8 +12,8 @@ use lib.ListN.{length, get_or, drop}
 use borrow.Author.Tests.{eqb-true, eq-eqb, ltb-true}
 use Rattle.meaning.specs.Tests.{Is, ◌&◌, ◌or◌, non}
 use Rattle.meaning.specs.Axes.{bytes, axes}
-use Rattle.meaning.specs.Texts.{pick, Range, ◌to◌, within, among, Form, empty, byte, ◌then◌, Has, Times, just, word, spelt, up_to, any_of}
-use Rattle.meaning.specs.QueryTexts.{blank, lower, in_variable, upper, in_label, in_word, variable, label, axis-names, axis, blanks, ◌~◌, head, Phrase, Said, with_commas, written_phrase, written, All, IsCondition, IsSaid, put, words, is_variable, with_word, phrases, said}
+use Rattle.meaning.specs.Texts.{pick, Range, within, among, Form, empty, byte, ◌then◌, Has, Times, just, word, spelt, up_to, any_of}
+use Rattle.meaning.specs.QueryTexts.{blank, lower, in_variable, upper, in_label, in_word, variable, label, axis-names, axis, blanks, ◌~◌, Phrase, Said, with_commas, written_phrase, written, All, IsCondition, IsSaid, put, words, is_variable, with_word, phrases, said}
 use Rattle.query_text.proofs.After.{both_l, both_r, first, second, either}
 use Rattle.query_text.proofs.First.{apart, apart_from, apart_is, among_one}
 
@@ -37,7 +37,7 @@ words-apart w (b ∷ t) h = rw h
 
 words_in : (w u t : List ℕ) → Inside u → words w (u ++ t) ≡ words (w ++ u) t
 unfolding Inside words pick
-words_in w [] t h = ap (λ (x : List ℕ). words x t) (sym (append_nil w))
+words_in w [] t h = ap (λ (x : List ℕ). words x t) (sym (append-nil w))
 words_in w (b ∷ u) t h = rw h.0 (words_in (w ++ (b ∷ [])) u t h.1 ∙ ap (λ (x : List ℕ). words x t) (append_assoc w (b ∷ []) u))
 
 put_word : (w : List ℕ) (ws : List (List ℕ)) → 0 < length w → put w ws ≡ w ∷ ws
@@ -226,7 +226,7 @@ bracketed_shut : (xs : List (List ℕ)) → All Wordy xs → Shut (bracketed xs)
 unfolding bracketed
 bracketed_shut xs h =
     after_sign (spelt "(") _ xs signs.opening
-    (blank_shut _ xs (shut_as _ (xs ++ []) xs (append_nil xs)
+    (blank_shut _ xs (shut_as _ (xs ++ []) xs (append-nil xs)
     (open_shut (with_commas (map word xs)) (blanks then spelt ")") xs [] (commas_open xs h) (blanks_firm _ signs.closing.firm) (blank_shut _ [] signs.closing.shut))))
 
 bracketed_firm : (xs : List (List ℕ)) → Firm (bracketed xs)
@@ -248,7 +248,7 @@ phrase_shut p h = open_shut (word p.name) (bracketed p.variables) (p.name ∷ []
 phrases_shut : (ps : List Phrase) → All WordyPhrase ps → Shut (with_commas (map written_phrase ps)) (flat ps)
 unfolding with_commas ◌~◌ All flat
 phrases_shut [] h = empty_shut
-phrases_shut (p ∷ []) h = shut_as _ _ _ (ap (λ (x : List (List ℕ)). p.name ∷ x) (sym (append_nil p.variables))) (phrase_shut p h.0)
+phrases_shut (p ∷ []) h = shut_as _ _ _ (ap (λ (x : List (List ℕ)). p.name ∷ x) (sym (append-nil p.variables))) (phrase_shut p h.0)
 phrases_shut (p ∷ r ∷ ps) h =
     shut_then (written_phrase p) _ (p.name ∷ p.variables) (flat (r ∷ ps)) (phrase_shut p h.0)
     (after_sign (spelt ",") _ (flat (r ∷ ps)) signs.comma (blank_shut _ (flat (r ∷ ps)) (phrases_shut (r ∷ ps) h.1)))
@@ -260,7 +260,7 @@ tail_shut : (cs : List Phrase) → All WordyPhrase cs → Shut (tail_of cs) (fla
 unfolding tail_of
 tail_shut cs h =
     after_sign (spelt "<-") _ (flat cs) signs.arrow
-    (blank_shut _ (flat cs) (shut_as _ (flat cs ++ []) (flat cs) (append_nil (flat cs))
+    (blank_shut _ (flat cs) (shut_as _ (flat cs ++ []) (flat cs) (append-nil (flat cs))
     (shut_then (with_commas (map written_phrase cs)) _ (flat cs) [] (phrases_shut cs h) (after_sign (spelt ".") _ [] signs.stop (blank_shut empty [] empty_shut)))))
 
 q_is : bytes "Q" ≡ 81 ∷ []
@@ -276,7 +276,7 @@ words_of q s hw cw h =
     let e : s ≡ 81 ∷ (x ++ b) = h.2 ∙ ap (λ (y : List ℕ). y ++ b) (h.3.2 ∙ ap (λ (y : List ℕ). y ++ x) (word_is (bytes "Q") h.3.0 h.3.3 ∙ q_is)) in
     ap (λ (y : List ℕ). words [] (drop 1 y)) e
     ∙ bracketed_shut q.«head» hw x b h.3.4
-    ∙ ap (λ (ws : List (List ℕ)). q.«head» ++ ws) (ap (words []) (sym (append_nil b)) ∙ tail_shut q.conditions cw b [] h.4 ∙ append_nil (flat q.conditions))
+    ∙ ap (λ (ws : List (List ℕ)). q.«head» ++ ws) (ap (words []) (sym (append-nil b)) ∙ tail_shut q.conditions cw b [] h.4 ∙ append-nil (flat q.conditions))
 
 -- 5. From the words back to the head and the conditions.
 abbrev IsVar : List ℕ → Type 0
@@ -296,7 +296,7 @@ unfolding All phrases with_word pick flat
 phrases-flat [] h = refl
 phrases-flat (p ∷ ps) h =
     let e = phrases-head p.variables (flat ps) h.0.variables ∙ ap (λ (q : Said). record { «head» = p.variables ++ q.«head»; conditions = q.conditions }) (phrases-flat ps h.1)
-    ∙ ap (λ (v : List (List ℕ)). record { «head» = v; conditions = ps }) (append_nil p.variables) in
+    ∙ ap (λ (v : List (List ℕ)). record { «head» = v; conditions = ps }) (append-nil p.variables) in
     rw h.0.name (ap (λ (q : Said). record { «head» = []; conditions = record { name = p.name; variables = q.«head» } ∷ q.conditions }) e)
 
 -- 6. Variables, labels and axis names are words.
@@ -442,4 +442,4 @@ says_one q s g h =
     ap phrases (words_of q s (all_as (Has variable) Wordy (λ x k. (variable-told x k).wordy) q.«head» g.variables) (all_as IsCondition WordyPhrase condition_wordy q.conditions g.conditions) h)
     ∙ phrases-head q.«head» (flat q.conditions) (all_as (Has variable) IsVar (λ x k. (variable-told x k).kind) q.«head» g.variables)
     ∙ ap (λ (r : Said). record { «head» = q.«head» ++ r.«head»; conditions = r.conditions }) (phrases-flat q.conditions (all_as IsCondition VarPhrase condition_kinds q.conditions g.conditions))
-    ∙ ap (λ (v : List (List ℕ)). record { «head» = v; conditions = q.conditions }) (append_nil q.«head»)
+    ∙ ap (λ (v : List (List ℕ)). record { «head» = v; conditions = q.conditions }) (append-nil q.«head»)

@@ -2,7 +2,7 @@
 -- what it stops at none does. Assumes nothing.
 use mathlib.Core.Path.{◌≡◌, refl, sym, ap, ◌∙◌, subst}
 use mathlib.Core.Bool.{Bool, true, false, false≢true, true≢false}
-use mathlib.Core.List.{List, [], ◌∷◌, append_nil}
+use mathlib.Core.List.{List, [], ◌∷◌, append-nil}
 use Prim.Native.Nat.{ℕ, suc, ◌≤◌, ◌<◌}
 use native.Mathlib.Omega.{arith}
 use lib.ListN.{length, take}
@@ -120,7 +120,7 @@ pub goes_on : (s : List ℕ) → stopped (steps Start s) ≡ false → Begins qu
 goes_on s h = go (finished (steps Start s)) (machine_is s ∙ run_on Start s h)
   where
     go : (z : Bool) → place query s ≡ pick z legal (bad (length s)) → Begins query s
-    go true e = ([], subst (Has query) (sym (append_nil s)) (is_legal s (subst (IsPlace query s) (e ∙ pick_yes legal (bad (length s))) (place_is query s query-alive))))
+    go true e = ([], subst (Has query) (sym (append-nil s)) (is_legal s (subst (IsPlace query s) (e ∙ pick_yes legal (bad (length s))) (place_is query s query-alive))))
     go false e = subst (Begins query) (take-length s) (is_bad s (length s) (subst (IsPlace query s) (e ∙ pick_no legal (bad (length s))) (place_is query s query-alive))).2
 
 -- what is stopped at: no legal text begins so

@@ -1,6 +1,6 @@
 -- A machine that reads query texts byte by byte. Assumes nothing: these are definitions.
 use Rattle.std.specs.Prelude.{Bool, true, false, List, [], ◌∷◌, ℕ, zero, suc, ◌-◌, eqb, ltb}
-use Rattle.meaning.specs.Tests.{◌&◌, ◌or◌}
+use Rattle.meaning.specs.Tests.{◌&◌}
 use Rattle.meaning.specs.Axes.{bytes}
 use Rattle.meaning.specs.Texts.{pick, among, Place, legal, bad}
 use Rattle.meaning.specs.QueryTexts.{blank, lower, upper, in_variable, in_label}

@@ -13,7 +13,7 @@ pub(crate) enum Verdict {
 }
 
 // What was read last; for a name, how many more bytes it may have, or how many it has.
-#[derive(Drop)]
+#[derive(Clone, Copy)]
 pub(crate) enum Now {
     Stop,
     Start,

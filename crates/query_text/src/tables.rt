@@ -7,7 +7,7 @@ use crate::letters::is_lower;
 use crate::words::{axis_code, byte_of, same_word, word_end, word_start};
 
 // Words by where they stand; `over` where there were more than 32.
-#[derive(Drop)]
+#[derive(Clone, Copy)]
 pub(crate) struct Seen {
     pub count: usize,
     pub over: bool,
