@@ -20,6 +20,7 @@ use Rattle.meaning.specs.Pruning.{strikings, pruned}
 use Rattle.meaning.specs.Words.{words_of}
 use Rattle.meaning.specs.Answers.{is_yes, answers, answers_after}
 use Rattle.meaning.specs.Entries.{Ground, ◌when◌, Verdict, fine, refuse, lowest, table_grounds, query_grounds, query_says, query_answer, needed, prune_grounds, prune_says, prune_answer, unless, prune_leaves, at_front, cleared, yes_no_says, yes_no_answer, yes_no_leaves, is_tuple, search_grounds, search_says, search_answer, search_leaves_sets, first_at_front, search_leaves_found, list_grounds, list_outcome, list_says, list_answer, list_leaves_sets, joined, list_leaves_found}
+use Rattle.meaning.specs.declared.Query.{Query}
 use Rattle.meaning.specs.declared.Condition.{Condition}
 use Rattle.meaning.specs.declared.QueryAnswer.TheVariants.{Refused as QueryRefused}
 use Rattle.meaning.specs.declared.Refusal.{Refusal}
@@ -109,6 +110,10 @@ lent_alike t cs = go (ltb 32 (length cs)) refl
         let l = ltb-true 32 (length cs) e in
         uncounted (too_many_lem _ (let m = asked-length t cs in omega (arith, l, m))) (too_many_lem _ (let m = lent_length t cs in omega (arith, l, m)))
     go false e = one (asked-lent t cs (ltb-false 32 (length cs) e))
+
+-- and the query that the face gathers
+pub gathered_alike : (t : Terms) (cs : List Condition) (q : Query) → q ≡ gathered t cs (length cs) (few (length cs)) → Alike (asked q) (lent t cs)
+gathered_alike t cs q e = rw e (lent_alike t cs)
 
 -- the verdict on a table and a question that is refused 4, or by the table before that
 unfoldable pub early : List ℕ → List ℕ → Verdict

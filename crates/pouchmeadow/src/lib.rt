@@ -15,14 +15,14 @@ use meaning::{
 };
 
 // A tree as its caller holds it: the post numbers and the labels of its rows.
-#[derive(Drop)]
+#[derive(Clone, Copy)]
 pub struct TreeView<'a> {
     pub post: &'a [u16],
     pub label: &'a [u16],
 }
 
 // A query but for its axis conditions. Of each array the first places count, as many as its number says.
-#[derive(Drop)]
+#[derive(Clone, Copy)]
 pub struct Terms {
     pub variables: usize,
     pub head_count: usize,
