@@ -1,7 +1,7 @@
 -- The query text and what is behind it, byte after byte. Assumes nothing.
 use mathlib.Core.Path.{◌≡◌, refl, sym, ap, ◌∙◌}
 use mathlib.Core.Bool.{Bool, true, false}
-use mathlib.Core.List.{List, [], ◌∷◌, ◌++◌, append_nil}
+use mathlib.Core.List.{List, [], ◌∷◌, ◌++◌, append-nil}
 use Prim.Native.Nat.{ℕ, suc, ◌+◌, ◌≤◌, ◌<◌}
 use native.Mathlib.Omega.{arith}
 use lib.Dec.{ltb}
@@ -68,7 +68,7 @@ unfolding query_text_of behind
 goes_end s i G m =
     let e = drop_of_length-le s {i = i} m in (
       G.inside,
-      sym (G.text ∙ (ap (λ (x : List ℕ). take i s ++ query_text_of x) e ∙ append_nil (take i s))),
+      sym (G.text ∙ (ap (λ (x : List ℕ). take i s ++ query_text_of x) e ∙ append-nil (take i s))),
       e ∙ sym (G.rest ∙ ap behind e),
     )
 

@@ -1,6 +1,6 @@
 -- Stores of lines, part after part, and the tuples of a buffer. Assumes nothing.
 use mathlib.Core.Path.{◌≡◌, refl, sym, ap, ◌∙◌}
-use mathlib.Core.List.{List, [], ◌∷◌, ◌++◌, map, append_assoc, append_nil}
+use mathlib.Core.List.{List, [], ◌∷◌, ◌++◌, map, append_assoc, append-nil}
 use Prim.Native.Nat.{ℕ, zero, suc, ◌+◌, ◌*◌, ◌≤◌, ◌<◌}
 use native.Mathlib.Omega.{arith}
 use native.Mathlib.Nat.{mul-le-mul_right, mul-le-mul_left, mul_assoc, add-mul, one-mul}
@@ -63,7 +63,7 @@ stores_end w b₀ at b i l m h = record {
 -- 3. The rows of a tuple.
 rows_behind : (rs : List ℕ) (r : ℕ) → rows_spaced (rs ++ (r ∷ [])) ≡ rows_spaced rs ++ (32 ∷ decimal r)
 unfolding rows_spaced
-rows_behind [] r = ap (λ (x : List ℕ). 32 ∷ x) (append_nil (decimal r))
+rows_behind [] r = ap (λ (x : List ℕ). 32 ∷ x) (append-nil (decimal r))
 rows_behind (q ∷ rs) r = ap (λ (x : List ℕ). 32 ∷ (decimal q ++ x)) (rows_behind rs r) ∙ ap (λ (x : List ℕ). 32 ∷ x) (sym (append_assoc (decimal q) (rows_spaced rs) (32 ∷ decimal r)))
 
 pub row_next : (found : List ℕ) (from i : ℕ) → from + i < length found → rows_spaced (take (i + 1) (drop from found)) ≡ rows_spaced (take i (drop from found)) ++ (32 ∷ decimal (get_or found (from + i) 0))
@@ -109,7 +109,7 @@ chunk_next k (suc n) s =
 
 lines_behind : (k : ℕ) (ts : List (List ℕ)) (t : List ℕ) → tuple_lines k (ts ++ (t ∷ [])) ≡ tuple_lines k ts ++ line k (map decimal t)
 unfolding tuple_lines
-lines_behind k [] t = append_nil (line k (map decimal t))
+lines_behind k [] t = append-nil (line k (map decimal t))
 lines_behind k (s ∷ ts) t = ap (λ (x : List ℕ). line k (map decimal s) ++ x) (lines_behind k ts t) ∙ sym (append_assoc (line k (map decimal s)) (tuple_lines k ts) (line k (map decimal t)))
 
 pub tuple_next : (s k j : ℕ) (found : List ℕ) → tuple_lines s (chunks k (j + 1) found) ≡ tuple_lines s (chunks k j found) ++ line s (map decimal (take k (drop (j * k) found)))

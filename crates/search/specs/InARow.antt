@@ -1,6 +1,6 @@
 -- Steps in a row are the whole run; and there is exactly one run on every input. Assumes nothing.
 use Rattle.std.specs.Prelude.{◌≡◌, refl, Bool, true, false, List, [], ◌∷◌, ◌++◌, ℕ, zero, suc, ◌+◌, ◌<◌, length, take, drop, replicate}
-use Rattle.std.proofs.Common.{sym, ap, subst, ◌∙◌, append_nil, arith}
+use Rattle.std.proofs.Common.{sym, ap, subst, ◌∙◌, append-nil, arith}
 use Rattle.std.proofs.lemmas.List.{length-replicate}
 use Rattle.std.proofs.Math.Seq.{take-append_seam}
 use Rattle.meaning.specs.Tests.{Is, non}
@@ -76,7 +76,7 @@ in_a_row q list (p ∷ ps) k s (a, out, out', document_posts, e, T) = go (blank 
         let n : ps ≡ [] = then_as a _ s (ps ≡ []) (InARow q list ps (suc k)) W.answered T in
         let l = printed_is _ a out out' p W e in (
           document_posts.reading ∷ [],
-          (ap non i, document_posts.is_reading, onward_as (stops lines) _ s ([] ≡ []) (Prints q list [] (suc k)) _ (sym j) (refl, ap (λ (x : List ℕ). x ++ joined ps) l ∙ (ap (λ (x : List (List ℕ)). lines ++ joined x) n ∙ append_nil lines))),
+          (ap non i, document_posts.is_reading, onward_as (stops lines) _ s ([] ≡ []) (Prints q list [] (suc k)) _ (sym j) (refl, ap (λ (x : List ℕ). x ++ joined ps) l ∙ (ap (λ (x : List (List ℕ)). lines ++ joined x) n ∙ append-nil lines))),
         )
     go false i (goes_on lines end) j W more =
         let r : InARow q list ps (suc k) (drop end s) = then_as a _ s (ps ≡ []) (InARow q list ps (suc k)) W.answered T in

@@ -1,0 +1,17 @@
+use mathlib.Core.Path.{◌≡◌, subst}
+use Prim.Native.Nat.{ℕ, ◌+◌, ◌*◌, ◌-◌, ◌≤◌}
+use native.Mathlib.Omega.{arith}
+use borrow.Author.Rules.{rules}
+use Rattle.meaning.specs.Run.{tuple_lines}
+use Rattle.search.specs.Wrote.{Wrote, chunks}
+use Rattle.search.proofs.Stores.{wrote_length, tuples-start, tuples-more, one_more}
+use Rattle.search.proofs.lines.put_tuples.Reads as reads
+use Rattle.search.proofs.lines.put_tuples.Lts as lts
+use Rattle.search.proofs.lines.put_tuple.Reads as put-tuple-reads
+use Rattle.search.proofs.lines.put_tuples.Given as goal
+
+abbrev pub invariant-loop-j : goal.invariant-loop-j
+invariant-loop-j l = (l.j ≤ l.n) × Wrote l.initial.out 0 (l.j * ((l.k + 1) * 21)) (tuple_lines l.sentence (chunks l.k l.j l.found)) l.out l.at
+
+abbrev pub decreases-loop-j : goal.decreases-loop-j
+decreases-loop-j l = l.n - l.j
