@@ -8,7 +8,9 @@ mod tries;
 use crate::cases::{cuts, damaged, example, reasons, spaces, spelling};
 use crate::limits::{buffers, conditions, letters, variables};
 use crate::tries::tries;
-use libc::STDOUT_FILENO;
+
+// Standard output.
+const STDOUT_FILENO: i32 = 1;
 
 fn tell(name: &[u8], good: bool) {
     io::write_all(STDOUT_FILENO, name);
