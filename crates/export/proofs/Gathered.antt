@@ -1,14 +1,14 @@
 -- The question of lent lists is what the gathered query asks. Assumes nothing.
-use mathlib.Core.Path.{◌≡◌, refl, sym, ap, ◌∙◌}
-use mathlib.Core.Bool.{Bool, true, false}
+use mathlib.Core.Path.{◌≡◌}
+use mathlib.Core.Bool.{true, false}
 use mathlib.Core.List.{List}
-use Prim.Native.Nat.{ℕ, ◌*◌, ◌/◌, ◌%◌, ◌≤◌}
+use Prim.Native.Nat.{ℕ, ◌*◌, ◌/◌, ◌≤◌}
 use native.Mathlib.Omega.{arith}
 use lib.ListN.{length}
 use borrow.Author.Tests.{leb-true}
-use Rattle.meaning.specs.Tests.{Is, ◌&◌, tab}
+use Rattle.meaning.specs.Tests.{tab}
 use Rattle.meaning.specs.Names.{pick}
-use Rattle.meaning.specs.Query.{Question, firsts, asked, no_label, no-condition}
+use Rattle.meaning.specs.Query.{firsts, asked, no_label, no-condition}
 use Rattle.meaning.specs.declared.Condition.{Condition}
 use Rattle.meaning.specs.declared.LabelCondition.{LabelCondition}
 use Rattle.meaning.specs.declared.Query.{Query}

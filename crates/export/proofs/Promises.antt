@@ -6,14 +6,14 @@ use mathlib.Core.List.{List, [], ◌∷◌}
 use Prim.Native.Nat.{ℕ, zero, suc, ◌+◌, ◌*◌, ◌/◌, ◌%◌, ◌≤◌, ◌<◌}
 use native.Mathlib.Omega.{arith}
 use native.Mathlib.Nat.{not-suc-le-zero, le_of_suc-le-suc}
-use lib.Dec.{ltb, leb, eqb}
+use lib.Dec.{ltb}
 use lib.ListN.{length, get_or}
 use lib.Seq.{ext_get_or}
-use borrow.Author.Tests.{ltb-true, ltb-false, lt-ltb, le-ltb, le-leb, eq-eqb}
+use borrow.Author.Tests.{ltb-true, le-ltb, le-leb, eq-eqb}
 use Rattle.meaning.specs.Tests.{◌&◌, tab}
 use Rattle.meaning.specs.Names.{pick}
 use Rattle.meaning.specs.QueryTexts.{reading}
-use Rattle.meaning.specs.Query.{Question, asked, is_counted, no_label, no-condition, label_at, axis_at}
+use Rattle.meaning.specs.Query.{asked, is_counted, no_label, no-condition, label_at, axis_at}
 use Rattle.meaning.specs.Entries.{query_answer}
 use Rattle.meaning.specs.Told.{told_sentence}
 use Rattle.meaning.specs.declared.Condition.{Condition}
@@ -25,7 +25,7 @@ use Rattle.meaning.specs.declared.SentenceAnswer.{SentenceAnswer}
 use Rattle.theory.specs.Tests.{tab-at, tab-length}
 use Rattle.query.proofs.Laws.{says_counts, head-length, labels_length as labels-length-asked, axes-length as axes-length-asked, labels_at}
 use Rattle.brackets.specs.Unique.{one_answer, one_post, one_label}
-use Rattle.export.specs.Lent.{narrowed, lent_label, lent_axis, is_whole, whole, lent, label_numbers, axis_numbers}
+use Rattle.export.specs.Lent.{narrowed, lent_label, lent_axis, is_whole, lent, label_numbers, axis_numbers}
 use Rattle.export.specs.Words.{told_words, SentenceTold}
 use Rattle.export.proofs.Lists.{labels_length, axes-length}
 use Rattle.export.proofs.Readings.{Few, few-read}

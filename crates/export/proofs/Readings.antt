@@ -4,10 +4,9 @@ use mathlib.Core.Bool.{Bool, true, false, false≢true}
 use mathlib.Core.List.{List, [], ◌∷◌, ◌++◌}
 use Prim.Native.Nat.{ℕ, zero, suc, ◌≤◌}
 use native.Mathlib.Omega.{arith}
-use lib.Dec.{ltb}
 use lib.ListN.{length}
 use borrow.Author.Tests.{ltb-false}
-use Rattle.meaning.specs.Tests.{Is, ◌or◌}
+use Rattle.meaning.specs.Tests.{◌or◌}
 use Rattle.meaning.specs.Texts.{pick, Place, legal, bad}
 use Rattle.meaning.specs.Places.{place}
 use Rattle.meaning.specs.Query.{label_at, no_label}
@@ -16,7 +15,6 @@ use Rattle.meaning.specs.declared.LabelCondition.{LabelCondition}
 use Rattle.meaning.specs.declared.Query.{Query}
 use Rattle.meaning.specs.declared.QueryTextAnswer.{QueryTextAnswer}
 use Rattle.meaning.specs.declared.QueryTextAnswer.TheVariants.{Read, Refused}
-use Rattle.meaning.specs.declared.Refusal.{Refusal}
 use Rattle.meaning.specs.declared.Refusal.TheVariants.{Counts}
 
 pub record Few (q : Query) : Type 0 where

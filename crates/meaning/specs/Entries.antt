@@ -1,9 +1,9 @@
 -- What each entry of the library answers and leaves in each lent buffer, on every input. Assumes nothing: these are definitions.
 -- The entries that read texts stand with their texts.
-use Rattle.std.specs.Prelude.{Bool, true, false, cond, List, [], ◌∷◌, ◌++◌, ℕ, zero, suc, ◌*◌, ltb, eqb, length, drop, take, replicate}
+use Rattle.std.specs.Prelude.{Bool, true, false, cond, List, [], ◌∷◌, ◌++◌, ℕ, ◌*◌, ltb, eqb, length, drop, take, replicate}
 use Rattle.meaning.specs.Tests.{◌&◌, ◌or◌, non, every}
 use Rattle.meaning.specs.Table.{is_sized, is_numbered, is_nested}
-use Rattle.meaning.specs.Query.{Question, Problem, problem, is_counted, is_named, is_of_one_set, takes}
+use Rattle.meaning.specs.Query.{Question, problem, is_counted, is_named, is_of_one_set, takes}
 use Rattle.meaning.specs.Pruning.{pruned, strikings}
 use Rattle.meaning.specs.Words.{width, words_of}
 use Rattle.meaning.specs.Answers.{row_at, is_yes, answers, answers_after}

@@ -1,5 +1,5 @@
 -- The examples that document 01 marks P, as one table, and some more; all are computed. Assumes nothing.
-use Rattle.std.specs.Prelude.{◌≡◌, refl, Bool, true, false, List, [], ◌∷◌, map, ℕ, zero, suc, length}
+use Rattle.std.specs.Prelude.{◌≡◌, refl, Bool, true, false, List, [], ◌∷◌, map, ℕ, length}
 use Rattle.meaning.specs.Tests.{◌&◌, ◌or◌, non, every, some, count, sum, least, tab}
 use Rattle.meaning.specs.Table.{is_sized, is_numbered, is_nested, is_tree, below, child, later, next, follows, level}
 use Rattle.meaning.specs.Axes.{bytes, axes, is_axis, axis_of, set_of, kind_holds, directed, axis_holds, key}
@@ -7,7 +7,7 @@ use Rattle.meaning.specs.Query.{Question, is_counted, is_named, is_axis_named, i
 use Rattle.meaning.specs.Pruning.{has_first, has_second, partnered, stands, size, written, strike_first, strike_second, passage, passages, pruned, strikings}
 use Rattle.meaning.specs.Answers.{meets, shows, before_each, tuples, any, keep, choices, is_answer, is_yes, insert, ordered, answers, is_before, answers_after}
 use Rattle.meaning.specs.Listing.{pruning, held, stages_cost, after_cost, cost_to, cost_all, room, within, Outcome, outcome}
-use Rattle.meaning.specs.Entries.{Verdict, lowest, table_grounds, table_says, table_answer, query_grounds, query_says, query_answer}
+use Rattle.meaning.specs.Entries.{lowest, table_grounds, table_says, table_answer, query_grounds, query_says, query_answer}
 use Rattle.meaning.specs.Told.{Told, number, place, refused, given, told_table, told_query}
 use Rattle.meaning.specs.declared.Ending.TheVariants.{Finished, Full, Spent}
 

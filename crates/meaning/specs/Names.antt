@@ -1,5 +1,5 @@
 -- The list of names that a sentence is read with, and a row's label number. Assumes nothing: these are definitions.
-use Rattle.std.specs.Prelude.{Bool, true, false, List, [], ◌∷◌, ℕ, zero, suc, ltb, eqb, length}
+use Rattle.std.specs.Prelude.{Bool, true, false, List, [], ◌∷◌, ℕ, suc, ltb, eqb, length}
 use Rattle.meaning.specs.Tests.{◌&◌, ◌or◌}
 
 -- one of two, by a test

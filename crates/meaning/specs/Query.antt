@@ -1,5 +1,5 @@
 -- The query, document 01's chapter of that name: its limits, its axis set, and what it asks of a table. Assumes nothing: these are definitions.
-use Rattle.std.specs.Prelude.{Bool, true, false, cond, List, [], ◌∷◌, ℕ, zero, suc, ltb, leb, eqb, length, get_or}
+use Rattle.std.specs.Prelude.{Bool, cond, List, ℕ, ltb, leb, eqb, length, get_or}
 use Rattle.meaning.specs.Tests.{◌&◌, ◌or◌, non, every, tab}
 use Rattle.meaning.specs.Axes.{is_axis, set_of, axis_holds, key}
 use Rattle.meaning.specs.declared.Condition.{Condition}

@@ -1,9 +1,8 @@
 -- The bracketed sentence, document 01's chapter of that name: legal sentences, what a sentence yields, the refusals with
 -- their places, and what a reading answers and leaves. Assumes nothing: these are definitions.
-use Rattle.std.specs.Prelude.{◌≡◌, Bool, true, false, List, [], ◌∷◌, ◌++◌, ℕ, zero, suc, ◌+◌, ◌-◌, ◌≤◌, ◌<◌, length, get_or, take, drop, ltb, leb, eqb}
+use Rattle.std.specs.Prelude.{◌≡◌, Bool, true, List, [], ◌∷◌, ◌++◌, ℕ, suc, ◌+◌, ◌-◌, ◌≤◌, ◌<◌, length, get_or, take, drop, ltb, leb, eqb}
 use Rattle.meaning.specs.Tests.{Is, ◌&◌, ◌or◌, non}
 use Rattle.meaning.specs.Names.{pick, too_many, label_number}
-use Rattle.meaning.specs.declared.Refusal.{Refusal}
 use Rattle.meaning.specs.declared.Refusal.TheVariants.{Counts, ShortBuffer, Brackets, TooLarge}
 use Rattle.meaning.specs.declared.SentenceAnswer.{SentenceAnswer}
 use Rattle.meaning.specs.declared.SentenceAnswer.TheVariants.{Read, Refused}

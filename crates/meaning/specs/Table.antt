@@ -1,6 +1,6 @@
 -- The tree table, document 01's chapter of that name: post numbers by row, the seven axes, levels. Assumes nothing: these are definitions.
-use Rattle.std.specs.Prelude.{Bool, true, false, List, ℕ, zero, suc, ltb, eqb, length, get_or}
-use Rattle.meaning.specs.Tests.{◌&◌, ◌or◌, non, every, some, count}
+use Rattle.std.specs.Prelude.{Bool, List, ℕ, suc, ltb, eqb, length, get_or}
+use Rattle.meaning.specs.Tests.{◌&◌, non, every, some, count}
 
 -- the post number of a row
 abbrev pub post : List ℕ → ℕ → ℕ

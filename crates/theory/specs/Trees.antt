@@ -1,18 +1,17 @@
 -- What a tree table and its axes say, as statements; levels; and a post number by row number, rows below and level. Assumes nothing.
-use Rattle.std.specs.Prelude.{◌≡◌, Bool, cond, ◌⊎◌, List, [], ◌∷◌, leb, get_or}
+use Rattle.std.specs.Prelude.{◌≡◌, Bool, ◌⊎◌, List}
 use Rattle.std.proofs.Math.Path.{refl, sym}
-use Rattle.std.proofs.Common.{ap, ◌∙◌, subst, not-suc-le-zero}
+use Rattle.std.proofs.Common.{ap, ◌∙◌}
 use Rattle.std.proofs.Math.Bool.{true, false}
-use Rattle.std.proofs.lemmas.Bool.{false≢true}
 use Rattle.std.proofs.Math.Logic.{inl, inr, ⊎_elim}
-use Prim.Native.Nat.{ℕ, zero, suc, ◌+◌, ◌-◌, ◌*◌, ◌≤◌, ◌<◌}
+use Prim.Native.Nat.{ℕ, zero, suc, ◌+◌, ◌-◌, ◌≤◌, ◌<◌}
 use native.Mathlib.Omega.{arith}
 use Rattle.std.proofs.Math.Dec.{ltb, eqb}
 use Rattle.std.proofs.Math.ListN.{length}
-use borrow.Author.Tests.{ltb-true, ltb-false, leb-true, leb-false, eqb-true, eqb-false, lt-ltb, le-ltb, le-leb, eq-eqb, ne_eqb}
-use Rattle.meaning.specs.Tests.{Is, ◌&◌, ◌or◌, non, every, some, one, count}
+use borrow.Author.Tests.{ltb-true, ltb-false, eqb-true, eqb-false, lt-ltb, le-ltb, eq-eqb, ne_eqb}
+use Rattle.meaning.specs.Tests.{Is, ◌&◌, ◌or◌, non, every, one, count}
 use Rattle.meaning.specs.Table.{post, is_numbered, is_nested, is_tree, below, child, later, next, follows, level}
-use Rattle.theory.specs.Tests.{and_l, and_r, and_in, or_cases, or_l, or_r, not_is, is_not, below_suc, every-at, every_in, some_is, some_in, count_le, count_eq, count_same, count_none, count-every, count_split, one_of, count_or, same-one}
+use Rattle.theory.specs.Tests.{and_l, and_r, and_in, or_l, or_r, not_is, is_not, below_suc, every-at, every_in, some_is, some_in, count_le, count_eq, count_none, count-every, count_split, one_of, count_or, same-one}
 
 -- a tree table, as a statement
 pub record Tree (t : List ℕ) : Type 0 where

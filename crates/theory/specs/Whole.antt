@@ -1,14 +1,13 @@
 -- A table and a query that are not refused: all laws apply to what is asked. Assumes nothing.
-use Rattle.std.specs.Prelude.{◌≡◌, refl, Bool, true, false, cond, ◌⊎◌, List, [], ◌∷◌, ◌++◌, ℕ, zero, suc, ◌+◌, ◌*◌, ◌≤◌, ◌<◌, leb, ltb, eqb, length, get_or}
-use Rattle.std.proofs.Common.{sym, ap, ◌∙◌, subst, inl, inr, ⊎_elim, arith, ltb-true, ltb-false, leb-true, eqb-true, eq-eqb}
-use Rattle.std.proofs.lemmas.Bool.{false≢true}
-use Rattle.meaning.specs.Tests.{Is, ◌&◌, ◌or◌, non, every}
+use Rattle.std.specs.Prelude.{◌≡◌, refl, Bool, true, false, cond, List, [], ◌∷◌, ◌++◌, ℕ, ◌≤◌, ◌<◌, length}
+use Rattle.std.proofs.Common.{subst, arith, ltb-true, leb-true, eqb-true, eq-eqb}
+use Rattle.meaning.specs.Tests.{Is, ◌or◌, non}
 use Rattle.meaning.specs.Table.{is_sized, is_numbered, is_nested, is_tree}
 use Rattle.meaning.specs.Axes.{is_axis, set_of, axis_holds, key}
-use Rattle.meaning.specs.Query.{Question, Problem, problem, head_at, label_at, axis_at, is_counted, is_named, is_axis_named, is_head_named, fits, is_of_one_set, takes}
-use Rattle.meaning.specs.Entries.{Ground, ◌when◌, Verdict, fine, refuse, lowest, table_grounds, query_grounds}
+use Rattle.meaning.specs.Query.{Question, problem, head_at, label_at, axis_at, is_counted, is_named, is_axis_named, is_head_named, fits, is_of_one_set, takes}
+use Rattle.meaning.specs.Entries.{Ground, ◌when◌, fine, refuse, lowest, table_grounds, query_grounds}
 use Rattle.meaning.specs.declared.Refusal.{Refusal}
-use Rattle.theory.specs.Tests.{and_l, and_r, and_in, or_cases, or_l, not_is, is_not, decide, every-at, every_in}
+use Rattle.theory.specs.Tests.{and_l, and_r, and_in, not_is, every-at}
 use Rattle.theory.specs.Trees.{Tree, tree_is}
 use Rattle.theory.specs.Orders.{XBar, key_apart, axis_xbar}
 use Rattle.theory.specs.Smallest.{Fit}

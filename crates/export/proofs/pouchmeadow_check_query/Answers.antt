@@ -1,6 +1,5 @@
 -- `export::pouchmeadow_check_query` meets its contract. By what each part ensures. Assumes nothing.
 use Rattle.export.proofs.Answered.{query-told}
-use borrow.Author.Rules.{rules}
 use Rattle.export.proofs.pouchmeadow_check_query.Goals as goal
 
 pub returns : goal.returns

@@ -3,7 +3,6 @@ use mathlib.Core.Path.{ap, ◌∙◌}
 use Rattle.meaning.specs.Told.{told_table}
 use Rattle.meaning.specs.declared.TableAnswer.{TableAnswer}
 use Rattle.export.specs.Words.{told_words}
-use borrow.Author.Rules.{rules}
 use Rattle.export.proofs.pouchmeadow_check_table.Goals as goal
 
 pub returns : goal.returns

@@ -1,5 +1,5 @@
 -- `export::pouchmeadow_read_query` meets its contract. By what each part ensures; a query that was read fits its arrays. Assumes nothing.
-use mathlib.Core.Path.{◌≡◌, ap, ◌∙◌}
+use mathlib.Core.Path.{ap, ◌∙◌}
 use native.Mathlib.Omega.{arith}
 use Rattle.meaning.specs.Query.{asked}
 use Rattle.meaning.specs.Entries.{at_front}
@@ -7,7 +7,6 @@ use Rattle.meaning.specs.declared.QueryReading.{QueryReading}
 use Rattle.export.specs.Lent.{label_numbers, axis_numbers}
 use Rattle.export.specs.Words.{told_words, told_reading}
 use Rattle.export.proofs.Readings.{Few, few-read}
-use borrow.Author.Rules.{rules}
 use Rattle.export.proofs.pouchmeadow_read_query.Goals as goal
 
 pub write_head-requires : goal.write_head-requires
@@ -20,7 +19,7 @@ pub write_axes-requires : goal.write_axes-requires
 write_axes-requires c = let f : Few c.read_query-r.result.query = rw c.read_query-r.ensures.0 (few-read _ _) in (f.axes-few, omega (arith, f.axes-few))
 
 pub returns : goal.returns
-returns c =  let a = c.args in
+returns c = let a = c.args in
     let e = c.read_query-r.ensures.0 in (
       c.of_reading.ensures ∙ ap (λ (y : QueryReading). told_words (told_reading y)) e,
       c.read_query-r.ensures.1,

@@ -1,9 +1,9 @@
-use Rattle.std.proofs.Common.{◌≡◌, ℕ, suc, ◌+◌, ◌≤◌, ◌<◌, List, length, get_or, sym, ◌∙◌, ap, add-one, arith, le_antisymm}
+use Rattle.std.proofs.Common.{◌≡◌, ℕ, ◌+◌, List, length, get_or, sym, ◌∙◌, ap, add-one, arith, le_antisymm}
 use Rattle.meaning.specs.declared.Condition.{Condition}
 use Rattle.meaning.specs.declared.Query.{Query}
 use Rattle.meaning.specs.Query.{no-condition}
 use Rattle.pouchmeadow.specs.declared.Terms.{Terms}
-use Rattle.pouchmeadow.specs.Gathered.{filled, gathered, placed, few}
+use Rattle.pouchmeadow.specs.Gathered.{filled, gathered, placed}
 use Rattle.pouchmeadow.proofs.Laws.{few_is}
 use Rattle.pouchmeadow.proofs.gather.Goals as goal
 

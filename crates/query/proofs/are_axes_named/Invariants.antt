@@ -1,13 +1,9 @@
 -- `query::are_axes_named` meets its contract. The loop's invariant: every condition passed is as it must be. Assumes nothing.
-use mathlib.Core.Path.{◌≡◌, sym, ◌∙◌}
+use mathlib.Core.Path.{◌≡◌}
 use mathlib.Core.Bool.{true}
 use Prim.Native.Nat.{◌≤◌, ◌-◌}
-use borrow.Author.Rules.{rules}
-use borrow.Author.Tests.{not-true, not-false}
 use Rattle.meaning.specs.Tests.{every}
 use Rattle.meaning.specs.Query.{is_axis_named, axis_at}
-use Rattle.query.specs.Check.{are_axes_named}
-use Rattle.query.proofs.Laws.{every_none, every_more, every_done, every_not}
 use Rattle.query.proofs.are_axes_named.Given as goal
 
 abbrev pub invariant-loop-i : goal.invariant-loop-i

@@ -1,15 +1,11 @@
 -- `query::are_axes_of` meets its contract. The loop's invariant: every axis passed is in the set. Assumes nothing.
-use mathlib.Core.Path.{◌≡◌, sym, ◌∙◌}
+use mathlib.Core.Path.{◌≡◌}
 use mathlib.Core.Bool.{true}
 use Prim.Native.Nat.{◌≤◌, ◌-◌}
 use lib.Dec.{eqb}
-use borrow.Author.Rules.{rules}
-use borrow.Author.Tests.{eq-eqb, ne_eqb}
 use Rattle.meaning.specs.Tests.{every}
 use Rattle.meaning.specs.Axes.{set_of}
 use Rattle.meaning.specs.Query.{axis_at}
-use Rattle.query.specs.Check.{are_axes_of}
-use Rattle.query.proofs.Laws.{every_none, every_more, every_done, every_not}
 use Rattle.query.proofs.are_axes_of.Given as goal
 
 abbrev pub invariant-loop-i : goal.invariant-loop-i

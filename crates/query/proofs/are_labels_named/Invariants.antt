@@ -1,14 +1,10 @@
 -- `query::are_labels_named` meets its contract. The loop's invariant: every condition passed is as it must be. Assumes nothing.
-use mathlib.Core.Path.{◌≡◌, sym, ◌∙◌}
+use mathlib.Core.Path.{◌≡◌}
 use mathlib.Core.Bool.{true}
 use Prim.Native.Nat.{◌≤◌, ◌-◌}
 use lib.Dec.{ltb}
-use borrow.Author.Rules.{rules}
-use borrow.Author.Tests.{not-true, not-false}
 use Rattle.meaning.specs.Tests.{every}
 use Rattle.meaning.specs.Query.{label_at}
-use Rattle.query.specs.Check.{are_labels_named}
-use Rattle.query.proofs.Laws.{every_none, every_more, every_done, every_not}
 use Rattle.query.proofs.are_labels_named.Given as goal
 
 abbrev pub invariant-loop-i : goal.invariant-loop-i

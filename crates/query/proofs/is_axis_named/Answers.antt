@@ -1,7 +1,6 @@
 -- `query::is_axis_named` meets its contract: each way is a test that fails, the last that none does. Assumes nothing.
 use native.Mathlib.Omega.{arith}
 use borrow.Author.Tests.{le-ltb, lt-ltb}
-use borrow.Author.Rules.{rules}
 use Rattle.meaning.specs.Tests.{◌&◌}
 use Rattle.meaning.specs.Query.{is_axis_named}
 use Rattle.query.proofs.Laws.{axis_seven}
@@ -18,8 +17,8 @@ returns-then-v-c c =
 
 pub returns-then-v-c-2 : goal.returns-then-v-c-2
 unfolding ◌&◌ is_axis_named
-returns-then-v-c-2 c =  simp (axis_seven, lt-ltb c.args.c.code 7 (omega arith), lt-ltb _ _ c.if-v-c.false, le-ltb _ _ c.if-v-c-2.true)
+returns-then-v-c-2 c = simp (axis_seven, lt-ltb c.args.c.code 7 (omega arith), lt-ltb _ _ c.if-v-c.false, le-ltb _ _ c.if-v-c-2.true)
 
 pub returns : goal.returns
 unfolding ◌&◌ is_axis_named
-returns c =  simp (axis_seven, lt-ltb c.args.c.code 7 (omega arith), lt-ltb _ _ c.if-v-c.false, lt-ltb _ _ c.if-v-c-2.false)
+returns c = simp (axis_seven, lt-ltb c.args.c.code 7 (omega arith), lt-ltb _ _ c.if-v-c.false, lt-ltb _ _ c.if-v-c-2.false)

@@ -16,20 +16,20 @@ returns-then-q-gt16 c =
 
 pub returns-then-q-gt8 : goal.returns-then-q-gt8
 unfolding ◌&◌
-returns-then-q-gt8 c =  let q = c.args.q in
+returns-then-q-gt8 c = let q = c.args.q in
     simp (counted q, le-leb _ _ c.if-q-lt1.false, le-leb _ _ c.if-q-gt16.false, lt-leb _ _ c.if-q-gt8.true)
 
 pub returns-then-q-gt32 : goal.returns-then-q-gt32
 unfolding ◌&◌
-returns-then-q-gt32 c =  let q = c.args.q in
+returns-then-q-gt32 c = let q = c.args.q in
     simp (counted q, le-leb _ _ c.if-q-lt1.false, le-leb _ _ c.if-q-gt16.false, le-leb _ _ c.if-q-gt8.false, lt-leb _ _ c.if-q-gt32.true)
 
 pub returns-then-q-gt32-2 : goal.returns-then-q-gt32-2
 unfolding ◌&◌
-returns-then-q-gt32-2 c =  let q = c.args.q in
+returns-then-q-gt32-2 c = let q = c.args.q in
     simp (counted q, le-leb _ _ c.if-q-lt1.false, le-leb _ _ c.if-q-gt16.false, le-leb _ _ c.if-q-gt8.false, le-leb _ _ c.if-q-gt32.false, lt-leb _ _ c.if-q-gt32-2.true)
 
 pub returns : goal.returns
 unfolding ◌&◌
-returns c =  let q = c.args.q in
+returns c = let q = c.args.q in
     simp (counted q, le-leb _ _ c.if-q-lt1.false, le-leb _ _ c.if-q-gt16.false, le-leb _ _ c.if-q-gt8.false, le-leb _ _ c.if-q-gt32.false, le-leb _ _ c.if-q-gt32-2.false)

@@ -1,14 +1,10 @@
 -- `query::is_new` meets its contract. The loop's invariant: no place passed has the variable. Assumes nothing.
-use mathlib.Core.Path.{◌≡◌, ap}
+use mathlib.Core.Path.{◌≡◌}
 use mathlib.Core.Bool.{true}
 use Prim.Native.Nat.{◌≤◌, ◌-◌}
 use lib.Dec.{eqb}
-use borrow.Author.Rules.{rules}
-use borrow.Author.Tests.{eq-eqb, ne_eqb}
 use Rattle.meaning.specs.Tests.{every, non}
 use Rattle.meaning.specs.Query.{head_at}
-use Rattle.query.specs.Check.{is_another}
-use Rattle.query.proofs.Laws.{every_none, every_more, every_done, every_not}
 use Rattle.query.proofs.is_new.Given as goal
 
 abbrev pub invariant-loop-j : goal.invariant-loop-j

@@ -1,6 +1,5 @@
 -- `query::is_place_named` meets its contract. Assumes nothing.
 use borrow.Author.Tests.{le-ltb, lt-ltb}
-use borrow.Author.Rules.{rules}
 use Rattle.meaning.specs.Tests.{◌&◌}
 use Rattle.meaning.specs.Query.{is_head_named}
 use Rattle.query.specs.Check.{is_another}

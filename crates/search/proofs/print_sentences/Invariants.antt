@@ -1,10 +1,6 @@
-use mathlib.Core.Path.{◌≡◌, ap, sym, ◌∙◌}
+use mathlib.Core.Path.{◌≡◌}
 use Prim.Native.Nat.{suc, ◌+◌, ◌≤◌}
-use native.Mathlib.Omega.{arith}
-use borrow.Author.Rules.{rules}
 use lib.ListN.{length}
-use Rattle.meaning.specs.Sentences.{sentence_rest}
-use Rattle.search.proofs.Doing.{next_shorter}
 use Rattle.search.proofs.print_sentences.Given as goal
 
 abbrev pub invariant-loop-n : goal.invariant-loop-n

@@ -3,24 +3,13 @@ use native.Mathlib.Omega.{arith}
 use lib.Seq.{length-take-le}
 use Rattle.meaning.specs.declared.QueryReading.{QueryReading}
 use Rattle.search.proofs.Begins.{names-fit}
-use borrow.Author.Rules.{rules}
-use Rattle.search.proofs.run.Reads as reads
-use Rattle.search.proofs.run.Lts as lts
-use Rattle.pouchmeadow.proofs.read_query.Reads as read-query-reads
-use Rattle.search.proofs.lines.put_refusal.Reads as put-refusal-reads
-use Rattle.search.proofs.print.Reads as print-reads
-use Rattle.search.proofs.print_sentences.Reads as print-sentences-reads
-use Rattle.search.proofs.query_end.Reads as query-end-reads
 use Rattle.search.proofs.run.Goals as goal
 
--- src/main.rt:69:36
 pub slice_bounds-read_query-end : goal.slice_bounds-read_query-end
 slice_bounds-read_query-end c = sym (length-take-le c.query_end-end.result c.args.input.now c.query_end-end.ensures.0)
 
--- src/main.rt:77:77
 pub slice_bounds-names-end : goal.slice_bounds-names-end
 slice_bounds-names-end c = let w = c.read_query-r in let l = names-fit _ _ _ (sym (ap (λ (r : QueryReading). r.answer) w.ensures.0) ∙ c.in-Read.is) in omega (arith, l, w.auto.names)
 
--- src/main.rt:77:77
 pub slice_bounds-print_sentences-end-in-Read : goal.slice_bounds-print_sentences-end-in-Read
 slice_bounds-print_sentences-end-in-Read c = let w = c.read_query-r in let l = names-fit _ _ _ (sym (ap (λ (r : QueryReading). r.answer) w.ensures.0) ∙ c.in-Read.is) in sym (length-take-le c.in-Read.n w.new.names (omega (arith, l, w.auto.names)))

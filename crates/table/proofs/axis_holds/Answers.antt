@@ -3,7 +3,6 @@ use mathlib.Core.Path.{◌≡◌, ap, ◌∙◌}
 use mathlib.Core.Bool.{Bool}
 use native.Mathlib.Omega.{arith}
 use lib.Dec.{eqb}
-use borrow.Author.Rules.{rules}
 use Rattle.meaning.specs.Tests.{◌or◌}
 use Rattle.meaning.specs.Axes.{axes, axis_of, kind_holds, directed, axis_holds}
 use Rattle.theory.specs.Trees.{tree_is}

@@ -1,9 +1,6 @@
 -- `table::check_table` meets its contract: each refusal from the test that fails, the lowest first. Assumes nothing.
-use mathlib.Core.Path.{◌≡◌, sym, ◌∙◌}
-use mathlib.Core.Bool.{true}
-use borrow.Author.Rules.{rules}
+use mathlib.Core.Path.{sym, ◌∙◌}
 use borrow.Author.Tests.{not-true, not-false}
-use Rattle.meaning.specs.Table.{is_sized}
 use Rattle.table.proofs.Check.{sized_is, refused_1, refused_2, refused_3, accepted, tree_both, not_nested}
 use Rattle.table.proofs.check_table.Goals as goal
 
@@ -20,7 +17,7 @@ pub is_numbered-requires : goal.is_numbered-requires
 is_numbered-requires c = sized_is _ _ (sym ((sym (not-false _ c.if-not-is_sized.false-raw) ∙ c.is_sized.ensures)))
 
 pub returns-then-is_numbered : goal.returns-then-is_numbered
-returns-then-is_numbered c =  let k = sym c.if-is_numbered.true ∙ c.is_numbered.ensures in
+returns-then-is_numbered c = let k = sym c.if-is_numbered.true ∙ c.is_numbered.ensures in
     refused_3 _ _ ((sym (not-false _ c.if-not-is_sized.false-raw) ∙ c.is_sized.ensures)) k (not_nested _ (sym c.if-is_tree.false ∙ c.is_tree.ensures) k)
 
 pub returns : goal.returns

@@ -1,8 +1,5 @@
-use Prim.Native.Nat.{◌≤◌, ◌-◌}
 use native.Mathlib.Omega.{arith}
-use lib.ListN.{length, set}
 use borrow.Author.Rules.{rules}
-use Rattle.table.specs.Rows.{Filled, KeyOf}
 use Rattle.table.proofs.Columns.{filled_none, filled_more, filled-end}
 use Rattle.table.proofs.fill_keys.Goals as goal
 

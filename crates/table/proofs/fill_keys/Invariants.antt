@@ -1,10 +1,7 @@
 -- `table::fill_keys` meets its contract. Assumes nothing.
 use Prim.Native.Nat.{◌≤◌, ◌-◌}
-use native.Mathlib.Omega.{arith}
-use lib.ListN.{length, set}
-use borrow.Author.Rules.{rules}
+use lib.ListN.{length}
 use Rattle.table.specs.Rows.{Filled, KeyOf}
-use Rattle.table.proofs.Columns.{filled_none, filled_more, filled-end}
 use Rattle.table.proofs.fill_keys.Given as goal
 
 abbrev pub invariant-loop-row : goal.invariant-loop-row

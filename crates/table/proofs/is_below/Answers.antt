@@ -1,5 +1,4 @@
 -- `table::is_below` meets its contract. Assumes nothing.
-use borrow.Author.Rules.{rules}
 use Rattle.table.proofs.Axes.{below_so, below_not}
 use Rattle.table.proofs.is_below.Goals as goal
 

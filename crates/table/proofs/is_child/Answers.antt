@@ -1,5 +1,4 @@
 -- `table::is_child` meets its contract. Assumes nothing.
-use borrow.Author.Rules.{rules}
 use Rattle.table.proofs.Axes.{parent_none, parent_so}
 use Rattle.table.proofs.is_child.Goals as goal
 

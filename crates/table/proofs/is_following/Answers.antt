@@ -1,5 +1,4 @@
 -- `table::is_following` meets its contract. Assumes nothing.
-use borrow.Author.Rules.{rules}
 use Rattle.table.proofs.Axes.{follows_so, follows_not}
 use Rattle.table.proofs.is_following.Goals as goal
 

@@ -1,5 +1,4 @@
 -- `table::is_later` meets its contract. Assumes nothing.
-use borrow.Author.Rules.{rules}
 use Rattle.table.proofs.Axes.{later_root, later_not, later_so}
 use Rattle.table.proofs.is_later.Goals as goal
 

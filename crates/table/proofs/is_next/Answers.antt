@@ -1,7 +1,6 @@
 -- `table::is_next` meets its contract. Assumes nothing.
 use mathlib.Core.Path.{◌∙◌}
 use native.Mathlib.Omega.{arith}
-use borrow.Author.Rules.{rules}
 use Rattle.table.proofs.Axes.{next_not, next_so}
 use Rattle.table.proofs.is_next.Goals as goal
 

@@ -1,7 +1,6 @@
 -- `table::is_numbered` meets its contract. Assumes nothing.
 use mathlib.Core.Path.{sym, ◌∙◌}
 use native.Mathlib.Omega.{arith}
-use borrow.Author.Rules.{rules}
 use borrow.Author.Tests.{not-true, not-false}
 use Rattle.table.proofs.Check.{numbered_not, numbered_so}
 use Rattle.table.proofs.is_numbered.Goals as goal

@@ -1,11 +1,8 @@
-use mathlib.Core.Path.{◌≡◌}
 use mathlib.Core.Bool.{false}
-use Prim.Native.Nat.{◌≤◌, ◌-◌}
 use native.Mathlib.Omega.{arith}
-use lib.ListN.{length}
 use borrow.Author.Rules.{rules}
 use lib.ListN.{get_or-replicate}
-use Rattle.table.proofs.Check.{Once, Seen, once_none, once-all, once_large, seen_none, seen_step, seen_again}
+use Rattle.table.proofs.Check.{once_none, once-all, once_large, seen_none, seen_step, seen_again}
 use Rattle.table.proofs.is_once.Goals as goal
 
 pub loop-row-init : goal.loop-row-init

@@ -1,12 +1,8 @@
 -- `table::is_once` meets its contract: of each number it is known whether a row passed has it. Assumes nothing.
 use mathlib.Core.Path.{◌≡◌}
-use mathlib.Core.Bool.{false}
 use Prim.Native.Nat.{◌≤◌, ◌-◌}
-use native.Mathlib.Omega.{arith}
 use lib.ListN.{length}
-use borrow.Author.Rules.{rules}
-use lib.ListN.{get_or-replicate}
-use Rattle.table.proofs.Check.{Once, Seen, once_none, once-all, once_large, seen_none, seen_step, seen_again}
+use Rattle.table.proofs.Check.{Once, Seen}
 use Rattle.table.proofs.is_once.Given as goal
 
 abbrev pub invariant-loop-row : goal.invariant-loop-row

@@ -1,6 +1,5 @@
 -- `table::key_of` meets its contract. Assumes nothing.
 use native.Mathlib.Omega.{arith}
-use borrow.Author.Rules.{rules}
 use Rattle.table.proofs.Columns.{key_pre, key-post, key-level, level_most}
 use Rattle.table.proofs.key_of.Goals as goal
 

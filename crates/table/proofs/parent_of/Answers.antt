@@ -1,26 +1,21 @@
 use mathlib.Core.Path.{sym, subst}
-use Prim.Native.Nat.{ℕ, ◌<◌}
+use Prim.Native.Nat.{ℕ}
 use native.Mathlib.Omega.{arith}
-use borrow.Author.Rules.{rules}
 use Rattle.meaning.specs.Tests.{Is}
 use Rattle.meaning.specs.Table.{child}
 use Rattle.theory.specs.Trees.{tree_is, below_is, child_is}
-use Rattle.table.proofs.Columns.{Passed, not_root, passed_on, parent_found}
+use Rattle.table.proofs.Columns.{not_root, passed_on, parent_found}
 use Rattle.table.proofs.parent_of.Goals as goal
 
--- src/lib.rt:187:5
 pub loop-p-init : goal.loop-p-init
 loop-p-init c = (omega (arith, c.requires), λ z l m. absurd (omega (arith, c.requires)))
 
--- src/lib.rt:187:11
 pub bounds-post-p : goal.bounds-post-p
 bounds-post-p c = let i = c.loop-p.invariant in omega (arith, i.0, c.requires.2)
 
--- src/lib.rt:188:18
 pub bounds-parents-p : goal.bounds-parents-p
 bounds-parents-p c = let i = c.loop-p.invariant in omega (arith, i.0, c.requires.3)
 
--- src/lib.rt:187:5
 pub loop-p-smaller : goal.loop-p-smaller
 loop-p-smaller c =
     let i = c.loop-p.invariant in
@@ -31,7 +26,6 @@ loop-p-smaller c =
     let u = (below_is a.post.now c.wide-p.result c.loop-p.p (child_is a.post.now c.wide-p.result c.loop-p.p C).0).0 in
     u
 
--- src/lib.rt:187:5
 pub loop-p-preserved : goal.loop-p-preserved
 loop-p-preserved c =
     let i = c.loop-p.invariant in
@@ -42,7 +36,6 @@ loop-p-preserved c =
     let u = (below_is a.post.now c.wide-p.result c.loop-p.p (child_is a.post.now c.wide-p.result c.loop-p.p C).0).0 in
     (omega (arith, u, i.0), passed_on a.post.now T a.row c.loop-p.p i.0 c.requires.2 i.1 c.wide-p.result C c.loop-p-test.true)
 
--- src/lib.rt:181:1
 pub returns : goal.returns
 returns c =
     let i = c.loop-p.invariant in

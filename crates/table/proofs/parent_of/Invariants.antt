@@ -1,12 +1,6 @@
 -- `table::parent_of` meets its contract: no row that it passes is above the row. Assumes nothing.
-use mathlib.Core.Path.{sym, subst}
-use Prim.Native.Nat.{ℕ, ◌<◌}
-use native.Mathlib.Omega.{arith}
-use borrow.Author.Rules.{rules}
-use Rattle.meaning.specs.Tests.{Is}
-use Rattle.meaning.specs.Table.{child}
-use Rattle.theory.specs.Trees.{tree_is, below_is, child_is}
-use Rattle.table.proofs.Columns.{Passed, not_root, passed_on, parent_found}
+use Prim.Native.Nat.{◌<◌}
+use Rattle.table.proofs.Columns.{Passed}
 use Rattle.table.proofs.parent_of.Given as goal
 
 abbrev pub invariant-loop-p : goal.invariant-loop-p

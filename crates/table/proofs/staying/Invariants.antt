@@ -1,9 +1,6 @@
 -- `table::staying` meets its contract: the rows passed over end before the row. Assumes nothing.
-use Prim.Native.Nat.{◌≤◌, ◌<◌, ◌-◌}
-use native.Mathlib.Omega.{arith}
-use lib.ListN.{get_or}
-use borrow.Author.Rules.{rules}
-use Rattle.table.proofs.Stack.{Ended, ended_more, ended_root}
+use Prim.Native.Nat.{◌≤◌, ◌<◌}
+use Rattle.table.proofs.Stack.{Ended}
 use Rattle.table.proofs.staying.Given as goal
 
 abbrev pub invariant-loop-stay : goal.invariant-loop-stay

@@ -1,5 +1,5 @@
 -- `answers_test::ask::ask_list` is safe and ends: a part of a slice is as long as was asked for. Assumes nothing.
-use Rattle.std.proofs.Common.{sym, arith, length-take-le, rules}
+use Rattle.std.proofs.Common.{sym, arith, length-take-le}
 use Rattle.answers_test.proofs.ask.ask_list.Goals as goal
 
 pub slice_bounds-list_answers-end-2 : goal.slice_bounds-list_answers-end-2

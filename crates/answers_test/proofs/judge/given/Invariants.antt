@@ -1,5 +1,5 @@
 -- `answers_test::judge::given` is safe and ends. Assumes nothing.
-use Rattle.std.proofs.Common.{◌-◌, ◌≤◌, rules}
+use Rattle.std.proofs.Common.{◌-◌, ◌≤◌}
 use Rattle.answers_test.proofs.judge.given.Given as goal
 
 abbrev pub invariant-loop-i : goal.invariant-loop-i

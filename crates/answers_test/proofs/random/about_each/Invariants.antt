@@ -1,5 +1,5 @@
 -- `answers_test::random::about_each` is safe and ends. Assumes nothing.
-use Rattle.std.proofs.Common.{◌≡◌, ◌-◌, ◌≤◌, length, rules}
+use Rattle.std.proofs.Common.{◌≡◌, ◌-◌, ◌≤◌, length}
 use Rattle.answers_test.proofs.random.about_each.Given as goal
 
 abbrev pub invariant-loop-i : goal.invariant-loop-i

@@ -1,5 +1,5 @@
 -- `answers_test::random::cases` is safe and ends. Assumes nothing.
-use Rattle.std.proofs.Common.{◌≡◌, ◌-◌, ◌≤◌, length, rules}
+use Rattle.std.proofs.Common.{◌≡◌, ◌-◌, ◌≤◌, length}
 use Rattle.answers_test.proofs.random.cases.Given as goal
 
 abbrev pub invariant-loop-i : goal.invariant-loop-i

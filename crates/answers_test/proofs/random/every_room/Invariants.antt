@@ -1,5 +1,5 @@
 -- `answers_test::random::every_room` is safe and ends. Assumes nothing.
-use Rattle.std.proofs.Common.{◌≡◌, ◌-◌, ◌≤◌, length, rules}
+use Rattle.std.proofs.Common.{◌≡◌, ◌-◌, ◌≤◌, length}
 use Rattle.answers_test.proofs.random.every_room.Given as goal
 
 abbrev pub invariant-loop-i : goal.invariant-loop-i

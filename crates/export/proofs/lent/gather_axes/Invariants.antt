@@ -1,13 +1,9 @@
 -- `export::lent::gather_axes` meets its contract. The loop's invariant: the places passed hold the lent conditions. Assumes nothing.
-use mathlib.Core.Path.{◌≡◌, refl, sym, ap, ap₂, ◌∙◌}
-use Prim.Native.Nat.{ℕ, ◌+◌, ◌*◌, ◌-◌, ◌≤◌, ◌<◌}
-use native.Mathlib.Omega.{arith}
-use native.Mathlib.Nat.{le_antisymm}
-use lib.ListN.{length, get_or, set, length-set}
-use borrow.Author.Rules.{rules}
+use mathlib.Core.Path.{◌≡◌}
+use Prim.Native.Nat.{ℕ, ◌-◌, ◌≤◌, ◌<◌}
+use lib.ListN.{length, get_or}
 use Rattle.meaning.specs.Query.{no-condition}
 use Rattle.export.specs.Lent.{lent_axis}
-use Rattle.export.proofs.Lists.{stored}
 use Rattle.export.proofs.lent.gather_axes.Given as goal
 
 abbrev pub invariant-loop-i : goal.invariant-loop-i

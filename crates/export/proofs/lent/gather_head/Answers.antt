@@ -1,8 +1,7 @@
-use mathlib.Core.Path.{◌≡◌, refl, sym, ap, ap₂, ◌∙◌}
-use Prim.Native.Nat.{ℕ, ◌+◌, ◌*◌, ◌-◌, ◌≤◌, ◌<◌}
+use mathlib.Core.Path.{refl}
+use Prim.Native.Nat.{◌<◌}
 use native.Mathlib.Omega.{arith}
-use native.Mathlib.Nat.{le_antisymm}
-use lib.ListN.{length, get_or, set, length-set}
+use lib.ListN.{length, get_or}
 use borrow.Author.Rules.{rules}
 use Rattle.export.proofs.Lists.{stored}
 use Rattle.export.proofs.lent.gather_head.Goals as goal
@@ -13,7 +12,7 @@ loop-i-init c = (search rules, refl, λ k l. absurd (omega arith))
 pub loop-i-preserved : goal.loop-i-preserved
 loop-i-preserved c =
     let l = c.loop-i in
- (search rules, search rules, stored 0 l.out (λ k. get_or c.args.head.now k 0) l.i _ (let m : l.i < length l.out = omega (arith, c.requires, l.invariant.1) in m) refl l.invariant.2)
+    (search rules, search rules, stored 0 l.out (λ k. get_or c.args.head.now k 0) l.i _ (let m : l.i < length l.out = omega (arith, c.requires, l.invariant.1) in m) refl l.invariant.2)
 
 pub returns : goal.returns
 returns c = λ k m. c.loop-i.invariant.2 k (omega (arith, m, c.loop-i-test.false))

@@ -1,11 +1,7 @@
 -- `export::lent::gather_head` meets its contract. The loop's invariant: the places passed are the head's. Assumes nothing.
-use mathlib.Core.Path.{◌≡◌, refl, sym, ap, ap₂, ◌∙◌}
-use Prim.Native.Nat.{ℕ, ◌+◌, ◌*◌, ◌-◌, ◌≤◌, ◌<◌}
-use native.Mathlib.Omega.{arith}
-use native.Mathlib.Nat.{le_antisymm}
-use lib.ListN.{length, get_or, set, length-set}
-use borrow.Author.Rules.{rules}
-use Rattle.export.proofs.Lists.{stored}
+use mathlib.Core.Path.{◌≡◌}
+use Prim.Native.Nat.{ℕ, ◌-◌, ◌≤◌, ◌<◌}
+use lib.ListN.{length, get_or}
 use Rattle.export.proofs.lent.gather_head.Given as goal
 
 abbrev pub invariant-loop-i : goal.invariant-loop-i

@@ -1,8 +1,7 @@
-use mathlib.Core.Path.{◌≡◌, refl, sym, ap, ap₂, ◌∙◌}
-use Prim.Native.Nat.{ℕ, ◌+◌, ◌*◌, ◌-◌, ◌≤◌, ◌<◌}
+use mathlib.Core.Path.{refl}
+use Prim.Native.Nat.{◌<◌}
 use native.Mathlib.Omega.{arith}
-use native.Mathlib.Nat.{le_antisymm}
-use lib.ListN.{length, get_or, set, length-set}
+use lib.ListN.{length}
 use borrow.Author.Rules.{rules}
 use Rattle.meaning.specs.Query.{no_label}
 use Rattle.export.specs.Lent.{lent_label}
@@ -16,7 +15,7 @@ pub loop-i-preserved : goal.loop-i-preserved
 unfolding lent_label
 loop-i-preserved c =
     let l = c.loop-i in
- (search rules, search rules, stored no_label l.out (lent_label c.args.labels.now) l.i _ (let m : l.i < length l.out = omega (arith, c.requires, l.invariant.1) in m) (rw c.narrow.ensures) l.invariant.2)
+    (search rules, search rules, stored no_label l.out (lent_label c.args.labels.now) l.i _ (let m : l.i < length l.out = omega (arith, c.requires, l.invariant.1) in m) (rw c.narrow.ensures) l.invariant.2)
 
 pub returns : goal.returns
 returns c = λ k m. c.loop-i.invariant.2 k (omega (arith, m, c.loop-i-test.false))

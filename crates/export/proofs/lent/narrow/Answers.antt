@@ -1,7 +1,6 @@
 -- `export::lent::narrow` meets its contract. By its test. Assumes nothing.
 use borrow.Author.Tests.{lt-ltb, le-ltb}
 use Rattle.export.specs.Lent.{narrowed}
-use borrow.Author.Rules.{rules}
 use Rattle.export.proofs.lent.narrow.Goals as goal
 
 pub returns-then-x-gt255 : goal.returns-then-x-gt255

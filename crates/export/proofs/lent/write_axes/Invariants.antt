@@ -1,14 +1,10 @@
 -- `export::lent::write_axes` meets its contract. The loop's invariant: what is passed stands at the front. Assumes nothing.
-use mathlib.Core.Path.{◌≡◌, ap, ◌∙◌}
-use Prim.Native.Nat.{ℕ, ◌+◌, ◌*◌, ◌-◌, ◌≤◌, ◌<◌}
-use native.Mathlib.Omega.{arith}
-use native.Mathlib.Nat.{le_antisymm}
-use lib.ListN.{length, length-set}
-use borrow.Author.Rules.{rules}
-use Rattle.meaning.specs.Query.{firsts, asked, no-condition}
+use mathlib.Core.Path.{◌≡◌}
+use Prim.Native.Nat.{◌-◌, ◌≤◌}
+use lib.ListN.{length}
+use Rattle.meaning.specs.Query.{firsts, no-condition}
 use Rattle.export.specs.Lent.{axis_numbers}
 use Rattle.meaning.specs.Entries.{at_front}
-use Rattle.export.proofs.Lists.{axes_none, axes-more}
 use Rattle.export.proofs.lent.write_axes.Given as goal
 
 abbrev pub invariant-loop-i : goal.invariant-loop-i

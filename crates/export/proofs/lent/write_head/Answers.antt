@@ -1,8 +1,7 @@
-use mathlib.Core.Path.{◌≡◌, ap, ◌∙◌}
-use Prim.Native.Nat.{ℕ, ◌+◌, ◌*◌, ◌-◌, ◌≤◌, ◌<◌}
+use mathlib.Core.Path.{ap, ◌∙◌}
+use Prim.Native.Nat.{ℕ}
 use native.Mathlib.Omega.{arith}
 use native.Mathlib.Nat.{le_antisymm}
-use lib.ListN.{length}
 use borrow.Author.Rules.{rules}
 use Rattle.meaning.specs.Query.{firsts, asked}
 use Rattle.meaning.specs.Entries.{at_front}
@@ -15,7 +14,7 @@ loop-i-init c = (search rules, search rules, head_none _ _)
 pub loop-i-preserved : goal.loop-i-preserved
 loop-i-preserved c =
     let l = c.loop-i in
- (search rules, search rules, head_more _ l.to c.args.to.now l.i l.invariant.2 (omega (arith, c.requires.1, l.invariant.0)))
+    (search rules, search rules, head_more _ l.to c.args.to.now l.i l.invariant.2 (omega (arith, c.requires.1, l.invariant.0)))
 
 pub returns : goal.returns
 unfolding asked

@@ -1,13 +1,9 @@
 -- `export::lent::write_head` meets its contract. The loop's invariant: what is passed stands at the front. Assumes nothing.
-use mathlib.Core.Path.{◌≡◌, ap, ◌∙◌}
-use Prim.Native.Nat.{ℕ, ◌+◌, ◌*◌, ◌-◌, ◌≤◌, ◌<◌}
-use native.Mathlib.Omega.{arith}
-use native.Mathlib.Nat.{le_antisymm}
+use mathlib.Core.Path.{◌≡◌}
+use Prim.Native.Nat.{◌-◌, ◌≤◌}
 use lib.ListN.{length}
-use borrow.Author.Rules.{rules}
-use Rattle.meaning.specs.Query.{firsts, asked}
+use Rattle.meaning.specs.Query.{firsts}
 use Rattle.meaning.specs.Entries.{at_front}
-use Rattle.export.proofs.Lists.{head_none, head_more}
 use Rattle.export.proofs.lent.write_head.Given as goal
 
 abbrev pub invariant-loop-i : goal.invariant-loop-i

@@ -1,8 +1,8 @@
-use mathlib.Core.Path.{◌≡◌, ap, ◌∙◌}
-use Prim.Native.Nat.{ℕ, ◌+◌, ◌*◌, ◌-◌, ◌≤◌, ◌<◌}
+use mathlib.Core.Path.{ap, ◌∙◌}
+use Prim.Native.Nat.{ℕ}
 use native.Mathlib.Omega.{arith}
 use native.Mathlib.Nat.{le_antisymm}
-use lib.ListN.{length, length-set}
+use lib.ListN.{length-set}
 use borrow.Author.Rules.{rules}
 use Rattle.meaning.specs.Query.{firsts, asked, no_label}
 use Rattle.export.specs.Lent.{label_numbers}
@@ -19,7 +19,7 @@ bounds-to-i-in-loop-i c = let l = c.loop-i in simp length-set (omega (arith, c.r
 pub loop-i-preserved : goal.loop-i-preserved
 loop-i-preserved c =
     let l = c.loop-i in
- (search rules, search rules, labels-more _ l.to c.args.to.now l.i l.invariant.2 (omega (arith, c.requires.1, l.invariant.0)))
+    (search rules, search rules, labels-more _ l.to c.args.to.now l.i l.invariant.2 (omega (arith, c.requires.1, l.invariant.0)))
 
 pub returns : goal.returns
 unfolding asked

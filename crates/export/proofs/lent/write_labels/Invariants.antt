@@ -1,14 +1,10 @@
 -- `export::lent::write_labels` meets its contract. The loop's invariant: what is passed stands at the front. Assumes nothing.
-use mathlib.Core.Path.{◌≡◌, ap, ◌∙◌}
-use Prim.Native.Nat.{ℕ, ◌+◌, ◌*◌, ◌-◌, ◌≤◌, ◌<◌}
-use native.Mathlib.Omega.{arith}
-use native.Mathlib.Nat.{le_antisymm}
-use lib.ListN.{length, length-set}
-use borrow.Author.Rules.{rules}
-use Rattle.meaning.specs.Query.{firsts, asked, no_label}
+use mathlib.Core.Path.{◌≡◌}
+use Prim.Native.Nat.{◌-◌, ◌≤◌}
+use lib.ListN.{length}
+use Rattle.meaning.specs.Query.{firsts, no_label}
 use Rattle.export.specs.Lent.{label_numbers}
 use Rattle.meaning.specs.Entries.{at_front}
-use Rattle.export.proofs.Lists.{labels_none, labels-more}
 use Rattle.export.proofs.lent.write_labels.Given as goal
 
 abbrev pub invariant-loop-i : goal.invariant-loop-i

@@ -1,7 +1,6 @@
 -- `export::words::ending_number` meets its contract. By the cases of the ending. Assumes nothing.
 use mathlib.Core.Path.{sym, ap}
 use Rattle.meaning.specs.Told.{ending_number}
-use borrow.Author.Rules.{rules}
 use Rattle.export.proofs.words.ending_number.Goals as goal
 
 pub returns-in-Finished : goal.returns-in-Finished

@@ -2,7 +2,6 @@
 use Rattle.meaning.specs.Told.{given}
 use Rattle.meaning.specs.QueryTexts.{pad}
 use Rattle.export.specs.Words.{told_words, told_reading, told_reading_of}
-use borrow.Author.Rules.{rules}
 use Rattle.export.proofs.words.of_reading.Goals as goal
 
 pub returns-in-Read : goal.returns-in-Read

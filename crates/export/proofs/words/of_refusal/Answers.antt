@@ -2,7 +2,6 @@
 use Rattle.meaning.specs.Told.{number, place}
 use Rattle.meaning.specs.declared.Refusal.TheVariants.{Columns, PostNumbers, ThreeRows, Counts, Variables, Axes, EmptyHead, Tuple, ShortBuffer, QueryText, Brackets, TooLarge, HeadVariable}
 use Rattle.export.proofs.Told.{is_refused}
-use borrow.Author.Rules.{rules}
 use Rattle.export.proofs.words.of_refusal.Goals as goal
 
 pub returns-in-Columns : goal.returns-in-Columns

@@ -2,7 +2,6 @@
 use Rattle.meaning.specs.Told.{given, told_table}
 use Rattle.meaning.specs.QueryTexts.{pad}
 use Rattle.export.specs.Words.{told_words}
-use borrow.Author.Rules.{rules}
 use Rattle.export.proofs.words.of_table.Goals as goal
 
 pub returns-in-Tree : goal.returns-in-Tree

@@ -2,7 +2,6 @@
 use Rattle.meaning.specs.Told.{given, told_yes_no}
 use Rattle.meaning.specs.QueryTexts.{pad}
 use Rattle.export.specs.Words.{told_words}
-use borrow.Author.Rules.{rules}
 use Rattle.export.proofs.words.of_yes_no.Goals as goal
 
 pub returns-in-Yes : goal.returns-in-Yes

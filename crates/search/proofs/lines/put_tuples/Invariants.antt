@@ -1,13 +1,6 @@
-use mathlib.Core.Path.{◌≡◌, subst}
-use Prim.Native.Nat.{ℕ, ◌+◌, ◌*◌, ◌-◌, ◌≤◌}
-use native.Mathlib.Omega.{arith}
-use borrow.Author.Rules.{rules}
+use Prim.Native.Nat.{◌+◌, ◌*◌, ◌-◌, ◌≤◌}
 use Rattle.meaning.specs.Run.{tuple_lines}
 use Rattle.search.specs.Wrote.{Wrote, chunks}
-use Rattle.search.proofs.Stores.{wrote_length, tuples-start, tuples-more, one_more}
-use Rattle.search.proofs.lines.put_tuples.Reads as reads
-use Rattle.search.proofs.lines.put_tuples.Lts as lts
-use Rattle.search.proofs.lines.put_tuple.Reads as put-tuple-reads
 use Rattle.search.proofs.lines.put_tuples.Given as goal
 
 abbrev pub invariant-loop-j : goal.invariant-loop-j

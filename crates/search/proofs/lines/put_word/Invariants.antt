@@ -1,11 +1,7 @@
-use mathlib.Core.Path.{◌≡◌, refl, sym, ap, ◌∙◌}
-use Prim.Native.Nat.{◌+◌, ◌*◌, ◌/◌, ◌-◌, ◌≤◌}
-use native.Mathlib.Omega.{arith}
-use borrow.Author.Rules.{rules}
-use lib.ListN.{length, get_or, length-set}
-use Rattle.search.proofs.Stores.{Stores, stores_start, stores_next, stores_end}
-use Rattle.search.proofs.lines.put_word.Reads as reads
-use Rattle.search.proofs.lines.put_word.Lts as lts
+use mathlib.Core.Path.{◌≡◌}
+use Prim.Native.Nat.{◌-◌, ◌≤◌}
+use lib.ListN.{length}
+use Rattle.search.proofs.Stores.{Stores}
 use Rattle.search.proofs.lines.put_word.Given as goal
 
 abbrev pub invariant-loop-i : goal.invariant-loop-i
