@@ -5,28 +5,12 @@
 # It proves and builds the program first if that has not been done.
 set -eu
 root=$(cd "$(dirname "$0")" && pwd)
+bash "$root/host/build.sh" search </dev/null
 program=$root/target/bin/search
-if [ ! -x "$program" ] || [ -n "$(find "$root/crates" "$root/crates.txt" -newer "$program" -type f -print -quit)" ]; then
-    log=$(mktemp)
-    (cd "$root" && rt check search) >"$log" 2>&1 || {
-        cat "$log" >&2
-        rm -f "$log"
-        exit 1
-    }
-    rm -f "$log"
-fi
-# the kit's loader and C library; where the processor is not x86-64, its emulator too
-kit=${RATTLE_HOME:-$(dirname "$(readlink -f "$(command -v rt)")")/..}
-tools=$kit/on/$(uname -m)/toolchain
-emulator=$tools/bin/qemu-x86_64
-[ -x "$emulator" ] || emulator=
-run() {
-    ${emulator:+"$emulator"} "$tools/lib/ld-linux-x86-64.so.2" --library-path "$tools/lib" "$program"
-}
 if [ $# -eq 0 ]; then
-    run
+    "$program"
 else
     query=$1
     shift
-    { printf '%s\n' "$query" && cat "$@"; } | run
+    { printf '%s\n' "$query" && cat "$@"; } | "$program"
 fi

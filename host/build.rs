@@ -1,4 +1,4 @@
-// Links the library that `rt staticlib export` writes, in target/ of this repository. It is x86-64 code.
+// Links the library that `bash host/build.sh export` writes, in target/ of this repository. It is x86-64 code.
 fn main() {
     let here = std::env::var("CARGO_MANIFEST_DIR").expect("cargo says where the package is");
     let folder = std::path::Path::new(&here).join("../target/staticlib");

@@ -30,9 +30,11 @@ LINE = re.compile(rb"[0-9]+( [0-9]+){1,8}|[0-9]+ (finished|full|spent) [0-9]+ [0
 
 
 def command():
-    """The built program, under the kit's loader, and its emulator where the processor is not x86-64."""
+    """The built program; where the processor is not x86-64, under the kit's loader and emulator."""
     if PROGRAM:
         return [PROGRAM]
+    if platform.machine() == "x86_64":
+        return [str(ROOT / "target" / "bin" / "search")]
     kit = pathlib.Path(os.environ.get("RATTLE_HOME") or pathlib.Path(shutil.which("rt")).resolve().parent.parent)
     tools = kit / "on" / platform.machine() / "toolchain"
     emulator = tools / "bin" / "qemu-x86_64"

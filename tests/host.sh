@@ -11,7 +11,7 @@ failed=0
 made=target/host
 mkdir -p "$made"
 
-if ! rt staticlib export; then
+if ! bash host/build.sh export; then
     echo "0 passed, 1 failed"
     exit 1
 fi

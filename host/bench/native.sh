@@ -12,8 +12,8 @@ mkdir -p "$made"
 machine=$(uname -m)
 
 if [ "$machine" = x86_64 ]; then
-    rt check search
-    rt staticlib export
+    bash host/build.sh search
+    bash host/build.sh export
     cp target/bin/search target/staticlib/libexport.a "$made"
     exit
 fi
@@ -43,7 +43,7 @@ done
 exec "$clang" "\$@"
 END
     chmod +x "$own"
-    rm -f "target/stamp/$name" "$kept" "$kept.new"
+    rm -f "target/bin/$name" "target/staticlib/lib$name.a" "crates/$name/out/$name" "crates/$name/out/lib$name.a" "$kept" "$kept.new"
     RATTLE_HOME=$copy "$@"
     [ -s "$kept.new" ] || {
         echo "native.sh: no bitcode of $name came by" >&2
@@ -61,13 +61,13 @@ compile() { # compile NAME OBJECT OPTION..: NAME.bc to OBJECT.o
     }
 }
 
-keep search rt check search
+keep search bash host/build.sh search
 compile search search
 gcc -no-pie "$made/search.o" -o "$made/search"
 compile search search_by_function -mllvm -inline-threshold=-100000
 gcc -no-pie "$made/search_by_function.o" -o "$made/search_by_function"
 
-keep export rt staticlib export
+keep export bash host/build.sh export
 compile export export
 rm -f "$made/libexport.a"
 ar rcs "$made/libexport.a" "$made/export.o"

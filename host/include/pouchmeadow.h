@@ -1,6 +1,6 @@
 /* Pouchmeadow: tree search for dictionary editors. The proved library, for C.
  *
- * Link with target/staticlib/libexport.a, which `rt staticlib export` writes (x86-64 Linux).
+ * Link with target/staticlib/libexport.a, which `bash host/build.sh export` writes (x86-64 Linux).
  *
  * A table is two columns of n rows, 1 to 1,024: `post` holds the post-order number of each row, `label` its label. The row
  * number is the pre-order number, from 0.

@@ -107,7 +107,7 @@ pub record IsSaid (q : Said) : Type 0 where
 
 -- The same by computing. Words are the runs of letters, digits, '$', '|', '+' and '*'; a variable is told by its first letter;
 -- behind the Q stand the head's variables, then each condition's name and its variables. That a legal text is a way to write
--- what it says, and that each way to write it says it, is proved with the reader (`legal-says`, `written-legal`).
+-- what it says, and that each way to write it says it, is proved with the reader (`legal_says`, `written-legal`).
 unfoldable pub in_word : List Range
 in_word = 97 to 122 ∷ 65 to 90 ∷ 48 to 57 ∷ 36 to 36 ∷ 124 to 124 ∷ 42 to 43 ∷ []
 

@@ -1,8 +1,8 @@
 -- A lent list of conditions and the query that is gathered from it: every entry answers the same and leaves the same for both. Assumes nothing.
---     few-is, filled_at        what is in place
+--     few_is, filled_at        what is in place
 --     asked-lent               up to 32 records the query asks what the list asks
---     too_many, many-refused   33 records and more are refused 4, whatever they are
---     alike-says               what an entry makes of the verdict on a question is the same for alike questions: one law, of which each entry's law is an instance
+--     too_many_lem, many_refused  33 records and more are refused 4, whatever they are
+--     alike_says               what an entry makes of the verdict on a question is the same for alike questions: one law, of which each entry's law is an instance
 use mathlib.Core.Path.{◌≡◌, refl, sym, ap, ◌∙◌}
 use mathlib.Core.Bool.{Bool, true, false, cond}
 use mathlib.Core.List.{List, [], ◌∷◌, ◌++◌}

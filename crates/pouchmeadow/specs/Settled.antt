@@ -1,5 +1,5 @@
 -- No entry's contract leaves a choice: any two results that it allows, with what is left in the buffers, are equal. Assumes nothing.
---     by-equation, by_two, by_three     the one law: what is given by an equation is settled, and so is what is given by two or three
+--     by_equation, by_two, by_three     the one law: what is given by an equation is settled, and so is what is given by two or three
 --     ..-settled                        each entry, for every input, as it is promised in Promised.antt
 use Rattle.std.specs.Prelude.{◌≡◌, List, ℕ}
 use Rattle.std.proofs.Common.{sym, ◌∙◌}
