@@ -1,5 +1,5 @@
 #!/usr/bin/env bash
-# Proves and builds what is shipped; both stay where they are as long as no source is newer.
+# Proves and builds what is shipped; both stay where they are as long as no source is newer and the kit is the same.
 #   bash host/build.sh search      target/bin/search, the program
 #   bash host/build.sh export      target/staticlib/libexport.a, the library for other languages
 set -eu
@@ -12,7 +12,8 @@ case ${1:-} in
         exit 2
         ;;
 esac
-if [ -s "$made" ] && [ -z "$(find crates crates.txt -name out -prune -o -newer "$made" -type f -print -quit)" ]; then exit 0; fi
+kit=$(rt version)
+if [ -s "$made" ] && [ "$(cat "$made.kit" 2>/dev/null)" = "$kit" ] && [ -z "$(find crates crates.txt -name out -prune -o -newer "$made" -type f -print -quit)" ]; then exit 0; fi
 mkdir -p "$(dirname "$made")"
 log=$(mktemp)
 trap 'rm -f "$log"' EXIT
@@ -24,3 +25,4 @@ else
 fi
 cp "$built" "$made.new"
 mv "$made.new" "$made"
+printf '%s\n' "$kit" >"$made.kit"

@@ -30,7 +30,7 @@ LINE = re.compile(rb"[0-9]+( [0-9]+){1,8}|[0-9]+ (finished|full|spent) [0-9]+ [0
 
 
 def command():
-    """The built program; where the processor is not x86-64, under the kit's loader and emulator."""
+    """The built program; where the processor is not x86-64, under a loader and an emulator beside the kit, as an older kit had them."""
     if PROGRAM:
         return [PROGRAM]
     if platform.machine() == "x86_64":

@@ -2,8 +2,9 @@
 # The library from other languages: builds it, then runs the test in C and the tests in Rust, which compare it with an
 # implementation of document 01 by definition. The last line is 'N passed, M failed'.
 #
-# The library is x86-64 code. On another machine the kit's compiler and emulator serve: the test in C runs under the
-# emulator, and the Rust tests, which run natively, call the library through a program there (host/c/serve.c).
+# The library is x86-64 code. On another machine a compiler and an emulator beside the kit serve, as an older kit had them: the
+# test in C runs under the emulator, and the Rust tests, which run natively, call the library through a program there
+# (host/c/serve.c).
 set -u
 cd "$(dirname "$0")/.." || exit 1
 passed=0
@@ -11,6 +12,7 @@ failed=0
 made=target/host
 mkdir -p "$made"
 
+rm -f target/staticlib/libexport.a
 if ! bash host/build.sh export; then
     echo "0 passed, 1 failed"
     exit 1

@@ -30,7 +30,7 @@ keep() {
     name=$1
     shift
     kept=$PWD/$made/$name.bc
-    if [ -s "$kept" ] && [ -z "$(find crates crates.txt -newer "$kept" -type f -print -quit)" ]; then return; fi
+    if [ -s "$kept" ] && [ -z "$(find crates crates.txt -name out -prune -o -newer "$kept" -type f -print -quit)" ]; then return; fi
     copy=$room/$name
     cp -as "$kit" "$copy"
     own=$copy/on/$machine/toolchain/bin/clang

@@ -133,6 +133,7 @@ fn put(q: Query, i: usize, c: Condition) -> Query
 }
 
 // The smaller of a count and 32.
+#[tactic(auto, unfolding(crate::specs::Gathered::few))]
 fn most(n: usize) -> usize
     ensures { result ≡ few n }
 {

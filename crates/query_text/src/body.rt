@@ -1,6 +1,6 @@
 // One byte on in the conditions of a query text, from each state.
 ghost use Rattle.std.specs.Prelude.{◌≡◌};
-ghost use Rattle.query_text.specs.Machine.{letter, in_a_label, step as step_of_lem};
+ghost use Rattle.query_text.specs.Machine.{letter, in_a_label, step as step_of};
 ghost use Rattle.query_text.specs.declared.machine.Now.TheVariants.{Wants, NameC, NameN, NameF, Child, Sibling, Following, Signs, Signed, AxisOpened, From, LastOpened, Last, Done, End};
 
 use crate::letters::{is_blank, is_in_label, is_in_variable, is_lower, is_upper};
@@ -31,7 +31,7 @@ pub(crate) fn in_a_label(n: usize, b: u8) -> Now
 
 // Before a condition: its name's first letter, of which three may begin an axis name.
 pub(crate) fn wants(b: u8) -> Now
-    ensures { result ≡ step_of_lem Wants b }
+    ensures { result ≡ step_of Wants b }
 {
     if is_blank(b) {
         return Now::Wants;
@@ -53,7 +53,7 @@ pub(crate) fn wants(b: u8) -> Now
 
 // Behind the first letter C.
 pub(crate) fn name_c(b: u8) -> Now
-    ensures { result ≡ step_of_lem NameC b }
+    ensures { result ≡ step_of NameC b }
 {
     if b == b'h' {
         return Now::Child(2);
@@ -63,7 +63,7 @@ pub(crate) fn name_c(b: u8) -> Now
 
 // Behind the first letter N.
 pub(crate) fn name_n(b: u8) -> Now
-    ensures { result ≡ step_of_lem NameN b }
+    ensures { result ≡ step_of NameN b }
 {
     if b == b'e' {
         return Now::Sibling(2);
@@ -73,7 +73,7 @@ pub(crate) fn name_n(b: u8) -> Now
 
 // Behind the first letter F.
 pub(crate) fn name_f(b: u8) -> Now
-    ensures { result ≡ step_of_lem NameF b }
+    ensures { result ≡ step_of NameF b }
 {
     if b == b'o' {
         return Now::Following(2);
@@ -83,7 +83,7 @@ pub(crate) fn name_f(b: u8) -> Now
 
 // In the name Child, of which j letters are read.
 pub(crate) fn in_child(j: usize, b: u8) -> Now
-    ensures { result ≡ step_of_lem (Child j) b }
+    ensures { result ≡ step_of (Child j) b }
 {
     if !is_letter(b"Child", j, b) {
         return Now::Stop;
@@ -96,7 +96,7 @@ pub(crate) fn in_child(j: usize, b: u8) -> Now
 
 // In the name NextSibling, of which j letters are read.
 pub(crate) fn in_sibling(j: usize, b: u8) -> Now
-    ensures { result ≡ step_of_lem (Sibling j) b }
+    ensures { result ≡ step_of (Sibling j) b }
 {
     if !is_letter(b"NextSibling", j, b) {
         return Now::Stop;
@@ -109,7 +109,7 @@ pub(crate) fn in_sibling(j: usize, b: u8) -> Now
 
 // In the name Following, of which j letters are read.
 pub(crate) fn in_following(j: usize, b: u8) -> Now
-    ensures { result ≡ step_of_lem (Following j) b }
+    ensures { result ≡ step_of (Following j) b }
 {
     if !is_letter(b"Following", j, b) {
         return Now::Stop;
@@ -122,7 +122,7 @@ pub(crate) fn in_following(j: usize, b: u8) -> Now
 
 // Behind an axis name that may take a sign.
 pub(crate) fn signs(b: u8) -> Now
-    ensures { result ≡ step_of_lem Signs b }
+    ensures { result ≡ step_of Signs b }
 {
     if b == b'+' {
         return Now::Signed;
@@ -141,7 +141,7 @@ pub(crate) fn signs(b: u8) -> Now
 
 // Behind a whole axis name.
 pub(crate) fn signed(b: u8) -> Now
-    ensures { result ≡ step_of_lem Signed b }
+    ensures { result ≡ step_of Signed b }
 {
     if is_blank(b) {
         return Now::Signed;
@@ -154,7 +154,7 @@ pub(crate) fn signed(b: u8) -> Now
 
 // Before an axis condition's first variable.
 pub(crate) fn axis_opened(b: u8) -> Now
-    ensures { result ≡ step_of_lem AxisOpened b }
+    ensures { result ≡ step_of AxisOpened b }
 {
     if is_blank(b) {
         return Now::AxisOpened;
@@ -167,7 +167,7 @@ pub(crate) fn axis_opened(b: u8) -> Now
 
 // In or behind that variable.
 pub(crate) fn in_first(n: usize, b: u8) -> Now
-    ensures { result ≡ step_of_lem (From n) b }
+    ensures { result ≡ step_of (From n) b }
 {
     if more(n, is_in_variable(b)) {
         return Now::From(fewer(n));
@@ -183,7 +183,7 @@ pub(crate) fn in_first(n: usize, b: u8) -> Now
 
 // Before a condition's last variable.
 pub(crate) fn last_opened(b: u8) -> Now
-    ensures { result ≡ step_of_lem LastOpened b }
+    ensures { result ≡ step_of LastOpened b }
 {
     if is_blank(b) {
         return Now::LastOpened;
@@ -196,7 +196,7 @@ pub(crate) fn last_opened(b: u8) -> Now
 
 // In or behind that variable.
 pub(crate) fn in_last(n: usize, b: u8) -> Now
-    ensures { result ≡ step_of_lem (Last n) b }
+    ensures { result ≡ step_of (Last n) b }
 {
     if more(n, is_in_variable(b)) {
         return Now::Last(fewer(n));
@@ -212,7 +212,7 @@ pub(crate) fn in_last(n: usize, b: u8) -> Now
 
 // Behind a condition.
 pub(crate) fn done(b: u8) -> Now
-    ensures { result ≡ step_of_lem Done b }
+    ensures { result ≡ step_of Done b }
 {
     if is_blank(b) {
         return Now::Done;
@@ -228,7 +228,7 @@ pub(crate) fn done(b: u8) -> Now
 
 // Behind the full stop.
 pub(crate) fn end(b: u8) -> Now
-    ensures { result ≡ step_of_lem End b }
+    ensures { result ≡ step_of End b }
 {
     if is_blank(b) {
         return Now::End;

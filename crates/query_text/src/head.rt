@@ -1,6 +1,6 @@
 // One byte on in the head of a query text, from each state.
 ghost use Rattle.std.specs.Prelude.{◌≡◌};
-ghost use Rattle.query_text.specs.Machine.{step as step_of_lem};
+ghost use Rattle.query_text.specs.Machine.{step as step_of};
 ghost use Rattle.query_text.specs.declared.machine.Now.TheVariants.{Start, Asked, Opened, InHead, HeadComma, Closed, Less};
 
 use crate::letters::{is_blank, is_in_variable, is_lower};
@@ -8,7 +8,7 @@ use crate::machine::{Now, fewer, more};
 
 // At the start.
 pub(crate) fn start(b: u8) -> Now
-    ensures { result ≡ step_of_lem Start b }
+    ensures { result ≡ step_of Start b }
 {
     if b == b'Q' {
         return Now::Asked;
@@ -18,7 +18,7 @@ pub(crate) fn start(b: u8) -> Now
 
 // Behind the Q.
 pub(crate) fn asked(b: u8) -> Now
-    ensures { result ≡ step_of_lem Asked b }
+    ensures { result ≡ step_of Asked b }
 {
     if is_blank(b) {
         return Now::Asked;
@@ -31,7 +31,7 @@ pub(crate) fn asked(b: u8) -> Now
 
 // In the head's parenthesis.
 pub(crate) fn opened(b: u8) -> Now
-    ensures { result ≡ step_of_lem Opened b }
+    ensures { result ≡ step_of Opened b }
 {
     if is_blank(b) {
         return Now::Opened;
@@ -47,7 +47,7 @@ pub(crate) fn opened(b: u8) -> Now
 
 // In or behind a variable of the head, which may have n more bytes.
 pub(crate) fn in_head(n: usize, b: u8) -> Now
-    ensures { result ≡ step_of_lem (InHead n) b }
+    ensures { result ≡ step_of (InHead n) b }
 {
     if more(n, is_in_variable(b)) {
         return Now::InHead(fewer(n));
@@ -66,7 +66,7 @@ pub(crate) fn in_head(n: usize, b: u8) -> Now
 
 // Behind a comma of the head.
 pub(crate) fn head_comma(b: u8) -> Now
-    ensures { result ≡ step_of_lem HeadComma b }
+    ensures { result ≡ step_of HeadComma b }
 {
     if is_blank(b) {
         return Now::HeadComma;
@@ -79,7 +79,7 @@ pub(crate) fn head_comma(b: u8) -> Now
 
 // Behind the head.
 pub(crate) fn closed(b: u8) -> Now
-    ensures { result ≡ step_of_lem Closed b }
+    ensures { result ≡ step_of Closed b }
 {
     if is_blank(b) {
         return Now::Closed;
@@ -92,7 +92,7 @@ pub(crate) fn closed(b: u8) -> Now
 
 // In the arrow.
 pub(crate) fn less(b: u8) -> Now
-    ensures { result ≡ step_of_lem Less b }
+    ensures { result ≡ step_of Less b }
 {
     if b == b'-' {
         return Now::Wants;

@@ -2,7 +2,7 @@
 ghost use Rattle.std.specs.Prelude.{◌≡◌, ◌-◌};
 ghost use Rattle.meaning.specs.Places.{place as place_of};
 ghost use Rattle.meaning.specs.QueryTexts.{query};
-ghost use Rattle.query_text.specs.Machine.{found, more as more_of, step as step_of_lem, stopped as stopped-of, finished as finished-of};
+ghost use Rattle.query_text.specs.Machine.{found, more as more_of, step as step_of, stopped as stopped_of, finished as finished_of};
 
 use crate::{body, head};
 
@@ -55,20 +55,20 @@ pub(crate) fn fewer(n: usize) -> usize
 }
 
 fn stopped(q: Now) -> bool
-    ensures { result ≡ stopped-of q }
+    ensures { result ≡ stopped_of q }
 {
     if let Now::Stop = q { true } else { false }
 }
 
 fn finished(q: Now) -> bool
-    ensures { result ≡ finished-of q }
+    ensures { result ≡ finished_of q }
 {
     if let Now::End = q { true } else { false }
 }
 
 // One byte on.
 fn step(q: Now, b: u8) -> Now
-    ensures { result ≡ step_of_lem q b }
+    ensures { result ≡ step_of q b }
 {
     match q {
         Now::Stop => Now::Stop,

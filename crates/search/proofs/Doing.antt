@@ -279,11 +279,11 @@ not_next n end m e = let z : ◌≡◌ {A = Bool} true false = ap is_next_lem e 
 
 pub next_shorter : (k : ℕ) (q : Question) (list s : List ℕ) (a : SentenceStep) (out out' : List ℕ) (n end : ℕ) → Does k q list s a out out' → a ≡ Next n end → length (drop end s) < length s
 unfolding step_for pick step_says end_of
-next_shorter k q list s a out out' n end document_posts h = go (blank s) (step k q list s document_posts.reading) refl (sym h ∙ document_posts.leaves.answered)
+next_shorter k q list s a out out' n end D h = go (blank s) (step k q list s D.reading) refl (sym h ∙ D.leaves.answered)
   where
-    go : (b : Bool) (o : Step) → step k q list s document_posts.reading ≡ o → Next n end ≡ step_says (pick b (stops []) o) → length (drop end s) < length s
+    go : (b : Bool) (o : Step) → step k q list s D.reading ≡ o → Next n end ≡ step_says (pick b (stops []) o) → length (drop end s) < length s
     go true o e i = absurd (not_next _ _ _ i)
     go false (stops lines) e i = absurd (not_next _ _ _ i)
     go false (goes_on lines end') e i =
         let d : end ≡ end' = ap end_of i in
-        subst (λ (x : ℕ). length (drop x s) < length s) (sym d) (step_shorter k q list s document_posts.reading lines end' document_posts.is_reading e)
+        subst (λ (x : ℕ). length (drop x s) < length s) (sym d) (step_shorter k q list s D.reading lines end' D.is_reading e)

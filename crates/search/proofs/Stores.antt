@@ -138,20 +138,20 @@ tuple_wrote s k at rs b₀ b₁ b₂ b₃ r₁ r₂ r₃ W X Y =
 words_wrote : (at m : ℕ) (d w u v b₀ b₁ b₂ b₃ b₄ b₅ : List ℕ) (r₁ r₂ r₃ r₄ r₅ : ℕ) → Wrote b₀ at 20 d b₁ r₁ → Wrote b₁ r₁ m (32 ∷ w) b₂ r₂ → Wrote b₂ r₂ 21 (32 ∷ u) b₃ r₃ → Wrote b₃ r₃ 21 (32 ∷ v) b₄ r₄ → Wrote b₄ r₄ 1 (10 ∷ []) b₅ r₅
     → Wrote b₀ at (20 + (m + (21 + (21 + 1)))) (d ++ spaced (w ∷ u ∷ v ∷ [])) b₅ r₅
 unfolding spaced
-words_wrote at m d w u v b₀ b₁ b₂ b₃ b₄ b₅ r₁ r₂ r₃ r₄ r₅ A B C document_posts E =
-    wrote_on b₀ at 20 (m + (21 + (21 + 1))) _ _ b₁ b₅ r₁ r₅ A (wrote_on b₁ r₁ m (21 + (21 + 1)) _ _ b₂ b₅ r₂ r₅ B (wrote_on b₂ r₂ 21 (21 + 1) _ _ b₃ b₅ r₃ r₅ C (wrote_on b₃ r₃ 21 1 _ _ b₄ b₅ r₄ r₅ document_posts E)))
+words_wrote at m d w u v b₀ b₁ b₂ b₃ b₄ b₅ r₁ r₂ r₃ r₄ r₅ A B C D E =
+    wrote_on b₀ at 20 (m + (21 + (21 + 1))) _ _ b₁ b₅ r₁ r₅ A (wrote_on b₁ r₁ m (21 + (21 + 1)) _ _ b₂ b₅ r₂ r₅ B (wrote_on b₂ r₂ 21 (21 + 1) _ _ b₃ b₅ r₃ r₅ C (wrote_on b₃ r₃ 21 1 _ _ b₄ b₅ r₄ r₅ D E)))
 
 pub ending_wrote : (s at : ℕ) (e : Ending) (tuples used : ℕ) (b₀ b₁ b₂ b₃ b₄ b₅ : List ℕ) (r₁ r₂ r₃ r₄ r₅ : ℕ) → Wrote b₀ at 20 (decimal s) b₁ r₁ → Wrote b₁ r₁ 9 (32 ∷ word e) b₂ r₂ → Wrote b₂ r₂ 21 (32 ∷ decimal tuples) b₃ r₃
     → Wrote b₃ r₃ 21 (32 ∷ decimal used) b₄ r₄ → Wrote b₄ r₄ 1 (10 ∷ []) b₅ r₅ → Wrote b₀ at 72 (ending_line s e tuples used) b₅ r₅
 unfolding ending_line line
-ending_wrote s at e tuples used b₀ b₁ b₂ b₃ b₄ b₅ r₁ r₂ r₃ r₄ r₅ A B C document_posts E = words_wrote at 9 (decimal s) (word e) (decimal tuples) (decimal used) b₀ b₁ b₂ b₃ b₄ b₅ r₁ r₂ r₃ r₄ r₅ A B C document_posts E
+ending_wrote s at e tuples used b₀ b₁ b₂ b₃ b₄ b₅ r₁ r₂ r₃ r₄ r₅ A B C D E = words_wrote at 9 (decimal s) (word e) (decimal tuples) (decimal used) b₀ b₁ b₂ b₃ b₄ b₅ r₁ r₂ r₃ r₄ r₅ A B C D E
 
 pub refusal_wrote : (s : ℕ) (r : Refusal) (n at : ℕ) (b₀ b₁ b₂ b₃ b₄ b₅ : List ℕ) (r₁ r₂ r₃ r₄ r₅ : ℕ) → n ≡ number r → at ≡ place r → Wrote b₀ 0 20 (decimal s) b₁ r₁ → Wrote b₁ r₁ 8 (32 ∷ bytes "refused") b₂ r₂
     → Wrote b₂ r₂ 21 (32 ∷ decimal n) b₃ r₃ → Wrote b₃ r₃ 21 (32 ∷ decimal at) b₄ r₄ → Wrote b₄ r₄ 1 (10 ∷ []) b₅ r₅ → Wrote b₀ 0 72 (refusal_line s r) b₅ r₅
 unfolding refusal_line line
-refusal_wrote s r n at b₀ b₁ b₂ b₃ b₄ b₅ r₁ r₂ r₃ r₄ r₅ e f A B C document_posts E =
+refusal_wrote s r n at b₀ b₁ b₂ b₃ b₄ b₅ r₁ r₂ r₃ r₄ r₅ e f A B C D E =
     let c = wrote_as b₂ r₂ 21 _ _ b₃ r₃ (ap (λ (x : ℕ). 32 ∷ decimal x) e) C in
-    let d = wrote_as b₃ r₃ 21 _ _ b₄ r₄ (ap (λ (x : ℕ). 32 ∷ decimal x) f) document_posts in
+    let d = wrote_as b₃ r₃ 21 _ _ b₄ r₄ (ap (λ (x : ℕ). 32 ∷ decimal x) f) D in
     wrote_within b₀ 0 71 72 _ b₅ r₅ (omega arith) (words_wrote 0 8 (decimal s) (bytes "refused") (decimal (number r)) (decimal (place r)) b₀ b₁ b₂ b₃ b₄ b₅ r₁ r₂ r₃ r₄ r₅ A B c d E)
 
 -- the lines of tuples of k rows: every row and the sentence number of every line take at most 21 bytes

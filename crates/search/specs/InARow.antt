@@ -65,9 +65,9 @@ onward_as o o' s None More out e T = subst (λ (x : Step). Onward x s None More 
 pub in_a_row : (q : Question) (list : List ℕ) (ps : List (List ℕ)) (k : ℕ) (s : List ℕ) → InARow q list ps k s → (gs : List Reading) × Prints q list gs k s (joined ps)
 unfolding InARow step_for pick Then step_says lines_of Prints Onward joined non
 in_a_row q list [] k s H = absurd H
-in_a_row q list (p ∷ ps) k s (a, out, out', document_posts, e, T) = go (blank s) refl (step k q list s document_posts.reading) refl document_posts.leaves (in_a_row q list ps (suc k))
+in_a_row q list (p ∷ ps) k s (a, out, out', D, e, T) = go (blank s) refl (step k q list s D.reading) refl D.leaves (in_a_row q list ps (suc k))
   where
-    go : (b : Bool) → blank s ≡ b → (o : Step) → step k q list s document_posts.reading ≡ o → Leaves (pick b (stops []) o) a out out' → ((r : List ℕ) → InARow q list ps (suc k) r → (gs : List Reading) × Prints q list gs (suc k) r (joined ps))
+    go : (b : Bool) → blank s ≡ b → (o : Step) → step k q list s D.reading ≡ o → Leaves (pick b (stops []) o) a out out' → ((r : List ℕ) → InARow q list ps (suc k) r → (gs : List Reading) × Prints q list gs (suc k) r (joined ps))
         → (gs : List Reading) × Prints q list gs k s (joined (p ∷ ps))
     go true i o j W more =
         let n : ps ≡ [] = then_as a _ s (ps ≡ []) (InARow q list ps (suc k)) W.answered T in
@@ -75,15 +75,15 @@ in_a_row q list (p ∷ ps) k s (a, out, out', document_posts, e, T) = go (blank 
     go false i (stops lines) j W more =
         let n : ps ≡ [] = then_as a _ s (ps ≡ []) (InARow q list ps (suc k)) W.answered T in
         let l = printed_is _ a out out' p W e in (
-          document_posts.reading ∷ [],
-          (ap non i, document_posts.is_reading, onward_as (stops lines) _ s ([] ≡ []) (Prints q list [] (suc k)) _ (sym j) (refl, ap (λ (x : List ℕ). x ++ joined ps) l ∙ (ap (λ (x : List (List ℕ)). lines ++ joined x) n ∙ append-nil lines))),
+          D.reading ∷ [],
+          (ap non i, D.is_reading, onward_as (stops lines) _ s ([] ≡ []) (Prints q list [] (suc k)) _ (sym j) (refl, ap (λ (x : List ℕ). x ++ joined ps) l ∙ (ap (λ (x : List (List ℕ)). lines ++ joined x) n ∙ append-nil lines))),
         )
     go false i (goes_on lines end) j W more =
         let r : InARow q list ps (suc k) (drop end s) = then_as a _ s (ps ≡ []) (InARow q list ps (suc k)) W.answered T in
         let l = printed_is _ a out out' p W e in
         let m = more (drop end s) r in (
-          document_posts.reading ∷ m.0,
-          (ap non i, document_posts.is_reading, onward_as (goes_on lines end) _ s (m.0 ≡ []) (Prints q list m.0 (suc k)) _ (sym j) (joined ps, ap (λ (x : List ℕ). x ++ joined ps) l, m.1)),
+          D.reading ∷ m.0,
+          (ap non i, D.is_reading, onward_as (goes_on lines end) _ s (m.0 ≡ []) (Prints q list m.0 (suc k)) _ (sym j) (joined ps, ap (λ (x : List ℕ). x ++ joined ps) l, m.1)),
         )
 
 -- the run whose query text was read: the steps in a row print what a run prints

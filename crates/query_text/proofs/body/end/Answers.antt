@@ -1,13 +1,13 @@
 -- `query_text::body::end` meets its contract. Test by test, as the machine's definition goes. Assumes nothing.
 use mathlib.Core.Path.{refl}
-use Rattle.query_text.specs.Machine.{step as step_of_lem}
+use Rattle.query_text.specs.Machine.{step as step_of}
 use Rattle.query_text.proofs.Classes.{yes, no}
 use Rattle.query_text.proofs.body.end.Goals as goal
 
 pub returns-then-is_blank : goal.returns-then-is_blank
-unfolding step_of_lem
+unfolding step_of
 returns-then-is_blank c = yes _ _ _ _ _ c.is_blank.ensures c.if-is_blank.true refl
 
 pub returns : goal.returns
-unfolding step_of_lem
+unfolding step_of
 returns c = no _ _ _ _ _ c.is_blank.ensures c.if-is_blank.false (refl)

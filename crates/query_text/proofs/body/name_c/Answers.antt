@@ -1,13 +1,13 @@
 -- `query_text::body::name_c` meets its contract. Test by test, as the machine's definition goes. Assumes nothing.
 use mathlib.Core.Path.{refl}
-use Rattle.query_text.specs.Machine.{step as step_of_lem}
+use Rattle.query_text.specs.Machine.{step as step_of}
 use Rattle.query_text.proofs.Classes.{is, isnt}
 use Rattle.query_text.proofs.body.name_c.Goals as goal
 
 pub returns-then-b-eq104 : goal.returns-then-b-eq104
-unfolding step_of_lem
+unfolding step_of
 returns-then-b-eq104 c = is _ _ _ _ _ c.if-b-eq104.true refl
 
 pub returns : goal.returns
-unfolding step_of_lem
+unfolding step_of
 returns c = isnt _ _ _ _ _ c.if-b-eq104.false c.in_a_label.ensures

@@ -1,9 +1,9 @@
 -- `query_text::machine::step` meets its contract. Each state by its own function's contract. Assumes nothing.
-use Rattle.query_text.specs.Machine.{step as step_of_lem}
+use Rattle.query_text.specs.Machine.{step as step_of}
 use Rattle.query_text.proofs.machine.step.Goals as goal
 
 pub returns-in-Stop : goal.returns-in-Stop
-unfolding step_of_lem
+unfolding step_of
 returns-in-Stop c = simp c.in-Stop.is
 
 pub returns-in-Start : goal.returns-in-Start
@@ -61,7 +61,7 @@ pub returns-in-From : goal.returns-in-From
 returns-in-From c = simp (c.in_first.ensures, c.in-From.is)
 
 pub returns-in-Label : goal.returns-in-Label
-unfolding step_of_lem
+unfolding step_of
 returns-in-Label c = simp (c.in_a_label.ensures, c.in-Label.is)
 
 pub returns-in-LastOpened : goal.returns-in-LastOpened
