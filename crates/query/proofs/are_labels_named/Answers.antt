@@ -1,7 +1,6 @@
 use mathlib.Core.Path.{sym, ◌∙◌}
 use lib.Dec.{ltb}
 use borrow.Author.Rules.{rules}
-use borrow.Author.Tests.{not-true, not-false}
 use Rattle.meaning.specs.Query.{label_at}
 use Rattle.query.specs.Check.{are_labels_named}
 use Rattle.query.proofs.Laws.{every_none, every_more, every_done, every_not}
@@ -13,12 +12,12 @@ loop-i-init c = (search rules, every_none _)
 pub returns-then-not-is_label_named : goal.returns-then-not-is_label_named
 unfolding are_labels_named
 returns-then-not-is_label_named c = let a = c.args in
-    every_not (λ i. ltb (label_at a.labels i).variable a.v) a.n c.loop-i.i c.loop-i-test.true (sym c.is_label_named.ensures ∙ not-true _ c.if-not-is_label_named.true-raw)
+    every_not (λ i. ltb (label_at a.labels i).variable a.v) a.n c.loop-i.i c.loop-i-test.true (sym c.is_label_named.ensures ∙ c.if-not-is_label_named.true)
 
 pub loop-i-preserved : goal.loop-i-preserved
 loop-i-preserved c = let a = c.args in (
   search rules,
-  every_more (λ i. ltb (label_at a.labels i).variable a.v) c.loop-i.i c.loop-i.invariant.1 (sym c.is_label_named.ensures ∙ not-false _ c.if-not-is_label_named.false-raw),
+  every_more (λ i. ltb (label_at a.labels i).variable a.v) c.loop-i.i c.loop-i.invariant.1 (sym c.is_label_named.ensures ∙ c.if-not-is_label_named.false),
 )
 
 pub returns : goal.returns

@@ -1,4 +1,6 @@
 -- `query::is_counted` meets its contract: each way is a test that fails, the last that none does. Assumes nothing.
+use Prim.Native.Nat.{◌≤◌}
+use native.Mathlib.Omega.{arith}
 use borrow.Author.Tests.{le-leb, lt-leb}
 use Rattle.meaning.specs.Tests.{◌&◌}
 use Rattle.query.proofs.Laws.{counted}
@@ -32,4 +34,5 @@ returns-then-q-gt32-2 c = let q = c.args.q in
 pub returns : goal.returns
 unfolding ◌&◌
 returns c = let q = c.args.q in
-    simp (counted q, le-leb _ _ c.if-q-lt1.false, le-leb _ _ c.if-q-gt16.false, le-leb _ _ c.if-q-gt8.false, le-leb _ _ c.if-q-gt32.false, le-leb _ _ c.if-q-gt32-2.false)
+    let few-axes : q.axis_count ≤ 32 = omega arith in
+    simp (counted q, le-leb _ _ c.if-q-lt1.false, le-leb _ _ c.if-q-gt16.false, le-leb _ _ c.if-q-gt8.false, le-leb _ _ c.if-q-gt32.false, le-leb _ _ few-axes)

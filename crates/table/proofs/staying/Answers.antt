@@ -9,7 +9,9 @@ pub loop-stay-init : goal.loop-stay-init
 loop-stay-init c = (search rules, search rules, λ k u w. absurd (omega arith))
 
 pub loop-stay-preserved : goal.loop-stay-preserved
-loop-stay-preserved c = (ended_root c.args.ends.now _ c.loop-stay.stay c.requires.2 ((let it : get_or c.args.ends.now (c.loop-stay.stay - 1) 0 < c.args.row = omega (arith, c.wide.ensures, c.loop-stay-test.true) in it)), search rules, ended_more c.args.ends.now _ _ c.loop-stay.stay c.loop-stay.invariant.2 ((let it : get_or c.args.ends.now (c.loop-stay.stay - 1) 0 < c.args.row = omega (arith, c.wide.ensures, c.loop-stay-test.true) in it)))
+loop-stay-preserved c =
+    let before : get_or c.args.ends.now (c.loop-stay.stay - 1) 0 < c.args.row = omega (arith, c.wide.ensures, c.loop-stay-test.true) in
+    (ended_root c.args.ends.now _ c.loop-stay.stay c.requires.2 before, search rules, ended_more c.args.ends.now _ _ c.loop-stay.stay c.loop-stay.invariant.2 before)
 
 pub returns : goal.returns
 returns c = record { root = c.loop-stay.invariant.0; most = c.loop-stay.invariant.1; ended = c.loop-stay.invariant.2; last = omega (arith, c.wide.ensures, c.loop-stay-test.false) }
