@@ -1,120 +1,88 @@
 // The three entries asked with buffers that hold a pattern: what they tell, and which places they changed.
-use meaning::{Ending, ListAnswer, Query, SearchAnswer, YesNoAnswer};
-use trials::refusals::number_of;
+use meaning::{Ending, Listing};
+use trials::buffers::{fill, kept, zero};
+use trials::questions::Question;
 
-// What a listing tells: 100 finished, 101 full, 102 spent; or the number of a refusal. Tuples and strikings used.
-#[derive(Drop)]
-pub(crate) struct Listing {
-    pub(crate) no: u64,
-    pub(crate) tuples: usize,
-    pub(crate) used: u64,
-}
-
-pub(crate) fn told(no: u64, tuples: usize, used: u64) -> Listing {
+pub(crate) fn listing(ending: Ending, tuples: usize, strikings: u64) -> Listing {
     Listing {
-        no: no,
-        tuples: tuples,
-        used: used,
+        ending,
+        tuples,
+        strikings,
     }
 }
 
-pub(crate) const FINISHED: u64 = 100;
-
-pub(crate) const FULL: u64 = 101;
-
-pub(crate) const SPENT: u64 = 102;
-
-// Yes, or found; no, or nothing.
-pub(crate) const YES: u64 = 100;
-
-pub(crate) const NO: u64 = 101;
-
-fn ending(e: Ending) -> u64 {
-    match e {
-        Ending::Finished => FINISHED,
-        Ending::Full => FULL,
-        Ending::Spent => SPENT,
-    }
+// W words for sets and P places for answers, of each of which the first are lent.
+#[derive(Drop)]
+pub(crate) struct Buffers<const W: usize, const P: usize> {
+    words: [u64; W],
+    places: [u16; P],
+    lent_words: usize,
+    lent_places: usize,
 }
 
-fn list_told(a: ListAnswer) -> Listing {
-    match a {
-        ListAnswer::Listed(e, tuples, used) => told(ending(e), tuples, used),
-        ListAnswer::Refused(r) => told(number_of(r), 0, 0),
+// An entry is asked where there is as much as is to be lent; it tells what it finds, or the number of the refusal.
+impl<const W: usize, const P: usize> Buffers<W, P> {
+    pub(crate) fn lending(words: usize, places: usize) -> Buffers<W, P> {
+        let mut buffers = Buffers {
+            words: [0; W],
+            places: [0; P],
+            lent_words: words,
+            lent_places: places,
+        };
+        fill(&mut buffers.words);
+        fill(&mut buffers.places);
+        buffers
     }
-}
 
-fn search_told(a: SearchAnswer) -> u64 {
-    match a {
-        SearchAnswer::Found => YES,
-        SearchAnswer::Nothing => NO,
-        SearchAnswer::Refused(r) => number_of(r),
+    pub(crate) fn yes_or_no(&mut self, asked: Question) -> Option<Result<bool, u8>> {
+        let words = self.words.get_mut(..self.lent_words)?;
+        let told = answers::yes_or_no(asked.post, asked.label, asked.query, words);
+        Some(told.map_err(|why| why.number()))
     }
-}
 
-fn yes_no_told(a: YesNoAnswer) -> u64 {
-    match a {
-        YesNoAnswer::Yes => YES,
-        YesNoAnswer::No => NO,
-        YesNoAnswer::Refused(r) => number_of(r),
+    // Whether a tuple was found.
+    pub(crate) fn find_after(
+        &mut self,
+        asked: Question,
+        tuple: &[u16],
+    ) -> Option<Result<bool, u8>> {
+        let words = self.words.get_mut(..self.lent_words)?;
+        let places = self.places.get_mut(..self.lent_places)?;
+        let told = answers::find_after(asked.post, asked.label, asked.query, tuple, words, places);
+        Some(told.map_err(|why| why.number()))
     }
-}
 
-// The first `words` words of the set buffer are lent, and the first `places` places of the answer buffer.
-pub(crate) fn ask_yes_no(
-    post: &[u16],
-    label: &[u16],
-    q: Query,
-    s: &mut [u64],
-    words: usize,
-) -> u64 {
-    if s.len() < words {
-        return 98;
+    pub(crate) fn list(&mut self, asked: Question, allowance: u64) -> Option<Result<Listing, u8>> {
+        let words = self.words.get_mut(..self.lent_words)?;
+        let places = self.places.get_mut(..self.lent_places)?;
+        let told = answers::list_answers(
+            asked.post,
+            asked.label,
+            asked.query,
+            allowance,
+            words,
+            places,
+        );
+        Some(told.map_err(|why| why.number()))
     }
-    yes_no_told(answers::yes_or_no(post, label, q, &mut s[..words]))
-}
 
-pub(crate) fn ask_after(
-    post: &[u16],
-    label: &[u16],
-    q: Query,
-    tuple: &[u16],
-    s: &mut [u64],
-    words: usize,
-    found: &mut [u16],
-    places: usize,
-) -> u64 {
-    if s.len() < words {
-        return 98;
+    // No word and no place differs.
+    pub(crate) fn are_kept(&self) -> bool {
+        kept(&self.words, 0) && kept(&self.places, 0)
     }
-    if found.len() < places {
-        return 98;
-    }
-    search_told(answers::find_after(post, label, q, tuple, &mut s[..words], &mut found[..places]))
-}
 
-pub(crate) fn ask_list(
-    post: &[u16],
-    label: &[u16],
-    q: Query,
-    allowance: u64,
-    s: &mut [u64],
-    words: usize,
-    found: &mut [u16],
-    places: usize,
-) -> Listing {
-    if s.len() < words {
-        return told(98, 0, 0);
+    // After an accepted call: zeros in the first `used` words, the pattern beyond.
+    pub(crate) fn are_cleared(&self, used: usize) -> bool {
+        zero(&self.words, used) && kept(&self.words, used)
     }
-    if found.len() < places {
-        return told(98, 0, 0);
+
+    // These numbers stand in the first places; no place beyond differs.
+    pub(crate) fn hold(&self, tuples: &[u16]) -> bool {
+        self.places.starts_with(tuples) && self.keep_from(tuples.len())
     }
-    list_told(answers::list_answers(
-        post,
-        label,
-        q,
-        allowance,
-        &mut s[..words],
-        &mut found[..places],
-    ))
+
+    // From one place on no place differs.
+    pub(crate) fn keep_from(&self, place: usize) -> bool {
+        kept(&self.places, place)
+    }
 }

@@ -1,213 +1,96 @@
 // One call of an entry judged against what trying every choice gives.
-use crate::ask::{FINISHED, FULL, Listing, NO, SPENT, YES, ask_after, ask_list, ask_yes_no, told};
-use crate::order::{NONE, row_of, times};
-use meaning::Query;
-use trials::buffers::{fill16, fill64, kept16, kept64, zero64};
-use trials::cells::{at16, at64, put16, sum, wrong};
-
-// After an accepted call: zeros in the first `used` words, the pattern beyond.
-pub(crate) fn cleared(s: &[u64], used: usize) -> bool {
-    zero64(s, used) & kept64(s, used)
-}
-
-// The first numbers are these.
-pub(crate) fn begins(found: &[u16], tuples: &[u16], to: usize) -> bool {
-    let mut i: usize = 0;
-    while i < to {
-        if at16(found, i) != at16(tuples, i) {
-            return false;
-        }
-        i += 1;
-    }
-    true
-}
+use crate::ask::{Buffers, listing};
+use crate::costs::Costs;
+use crate::order::Case;
+use crate::tried::List;
+use meaning::{Ending, Listing};
+use trials::cells::wrong;
+use trials::questions::Question;
 
 // ---- yes or no, of up to 64 rows
 
-pub(crate) fn yes_no(post: &[u16], label: &[u16], q: Query, words: usize, yes: bool) -> u64 {
-    let mut s = [0u64; 20];
-    fill64(&mut s);
-    let a = ask_yes_no(post, label, q, &mut s, words);
-    let right = (a == YES) & yes | (a == NO) & !yes;
-    wrong(right & cleared(&s, q.variables))
+pub(crate) fn yes_no(asked: Question, words: usize, yes: bool) -> u64 {
+    let mut lent = Buffers::<20, 1>::lending(words, 0);
+    let told = lent.yes_or_no(asked);
+    wrong(told == Some(Ok(yes)) && lent.are_cleared(asked.query.variables))
 }
 
 // ---- the first answer after a tuple
 
-// What is found stands in the buffer, and nothing else; where there is none (an empty tuple) no place differs.
-fn stands(a: u64, found: &[u16], next: &[u16]) -> bool {
-    let k = next.len();
-    if k == 0 {
-        return (a == NO) & kept16(found, 0);
-    }
-    (a == YES) & begins(found, next, k) & kept16(found, k)
-}
-
-// Both buffers are longer than needed by `more`, 2 at most. Up to 4 variables.
-pub(crate) fn after_in(
-    post: &[u16],
-    label: &[u16],
-    q: Query,
-    tuple: &[u16],
-    next: &[u16],
-    more: usize,
-) -> u64 {
-    let mut s = [0u64; 8];
-    let mut found = [0u16; 8];
-    fill64(&mut s);
-    fill16(&mut found);
-    let v = q.variables;
-    let a = ask_after(
-        post,
-        label,
-        q,
-        tuple,
-        &mut s,
-        sum(v, more),
-        &mut found,
-        sum(q.head_count, more),
-    );
-    wrong(stands(a, &found, next) & cleared(&s, v))
-}
-
-fn set_tuple(tuple: &mut [u16], place: &[u16], t: usize) {
-    put16(tuple, 0, row_of(place, t, 0));
-    put16(tuple, 1, row_of(place, t, 1));
-    put16(tuple, 2, row_of(place, t, 2));
-}
-
-// The length of a tuple by its number.
-fn length(t: usize, k: usize) -> usize {
-    if t == NONE {
-        return 0;
-    }
-    k
+// What is found stands in the buffer, and nothing else; where there is none no place differs. Both buffers are longer than
+// needed by `more`, 2 at most. Up to 4 variables.
+pub(crate) fn after_in(asked: Question, tuple: &[u16], next: Option<&[u16]>, more: usize) -> u64 {
+    let v = asked.query.variables;
+    let places = asked.query.head_count.wrapping_add(more);
+    let mut lent = Buffers::<8, 8>::lending(v.wrapping_add(more), places);
+    let told = lent.find_after(asked, tuple);
+    wrong(told == Some(Ok(next.is_some())) && lent.hold(next.unwrap_or(&[])) && lent.are_cleared(v))
 }
 
 // The answer after tuple t is tuple `next`, both by number.
-pub(crate) fn after(
-    post: &[u16],
-    label: &[u16],
-    place: &[u16],
-    q: Query,
-    t: usize,
-    next: usize,
-    more: usize,
-) -> u64 {
-    let k = q.head_count;
-    let l = length(next, k);
+pub(crate) fn after(case: &Case, t: usize, next: Option<usize>, more: usize) -> u64 {
+    let tuple = |t: usize| [case.row_of(t, 0), case.row_of(t, 1), case.row_of(t, 2)];
+    let k = case.asked.query.head_count;
     if 3 < k {
         return 1;
     }
-    if 3 < l {
-        return 1;
+    let from = tuple(t);
+    match next {
+        Some(u) => after_in(case.asked, &from[..k], Some(&tuple(u)[..k]), more),
+        None => after_in(case.asked, &from[..k], None, more),
     }
-    let mut from = [0u16; 3];
-    let mut to = [0u16; 3];
-    set_tuple(&mut from, place, t);
-    set_tuple(&mut to, place, next);
-    after_in(post, label, q, &from[..k], &to[..l], more)
 }
 
 // ---- listing
 
-// The largest j with j <= r and C(j) <= A, up to m.
-fn given(costs: &[u64], m: usize, room: usize, allowance: u64) -> usize {
-    let mut best: usize = 0;
-    let mut i: usize = 0;
-    while i < m {
-        best = larger(costs, best, sum(i, 1), room, allowance);
-        i += 1;
-    }
-    best
-}
-
-fn larger(costs: &[u64], best: usize, j: usize, room: usize, allowance: u64) -> usize {
-    if j <= room && at64(costs, j) <= allowance {
-        return j;
-    }
-    best
-}
-
-// The document's three endings, word by word.
-pub(crate) fn expected(costs: &[u64], m: usize, all: u64, room: usize, allowance: u64) -> Listing {
-    let j = given(costs, m, room, allowance);
-    if room <= m && at64(costs, room) <= allowance {
-        return told(FULL, j, at64(costs, room));
-    }
-    if m < room && all <= allowance {
-        return told(FINISHED, j, all);
-    }
-    told(SPENT, j, allowance)
-}
-
-pub(crate) fn same(a: Listing, b: Listing) -> bool {
-    (a.no == b.no) & (a.tuples == b.tuples) & (a.used == b.used)
-}
-
-// Places past the last tuple that has room: up to k - 1.
-fn spare(allowance: u64, room: usize, k: usize) -> usize {
-    let x = sum(allowance as usize, room);
-    match k {
-        2 => x % 2,
-        3 => x % 3,
-        _ => 0,
+// The document's three endings, word by word: with the largest j that has room and C(j) within the allowance.
+pub(crate) fn expected(costs: &Costs, m: usize, room: usize, allowance: u64) -> Listing {
+    let j = (0..m.wrapping_add(1))
+        .rev()
+        .find(|j| *j <= room && costs.first(*j) <= allowance)
+        .unwrap_or(0);
+    if room <= m && costs.first(room) <= allowance {
+        listing(Ending::Full, j, costs.first(room))
+    } else if m < room && costs.all <= allowance {
+        listing(Ending::Finished, j, costs.all)
+    } else {
+        listing(Ending::Spent, j, allowance)
     }
 }
 
-// A listing tells what is expected, its tuples are the first of the list, and nothing else is left in the buffers. Both are
-// lent from the front: `places` places, and the words of the variables with some `more`, 2 at most.
+// A listing tells what is expected, its tuples are the first of these, and nothing else is left in the buffers. Lent are
+// `places` of 200 places, and the words of the variables with some `more`, 2 at most.
 pub(crate) fn list_in(
-    post: &[u16],
-    label: &[u16],
-    q: Query,
+    asked: Question,
     allowance: u64,
     places: usize,
     more: usize,
     tuples: &[u16],
     expect: Listing,
-    found: &mut [u16],
 ) -> u64 {
-    let mut s = [0u64; 6];
-    fill64(&mut s);
-    fill16(found);
-    let v = q.variables;
-    let a = ask_list(
-        post,
-        label,
-        q,
-        allowance,
-        &mut s,
-        sum(v, more),
-        found,
-        places,
-    );
-    let end = times(expect.tuples, q.head_count);
-    let right = same(a, expect) & begins(found, tuples, end) & kept16(found, end);
-    wrong(right & cleared(&s, v))
+    let v = asked.query.variables;
+    let mut lent = Buffers::<6, 200>::lending(v.wrapping_add(more), places);
+    let told = lent.list(asked, allowance);
+    let end = expect.tuples.wrapping_mul(asked.query.head_count);
+    let held = tuples.get(..end).is_some_and(|first| lent.hold(first));
+    wrong(told == Some(Ok(expect)) && held && lent.are_cleared(v))
 }
 
-pub(crate) fn list(
-    post: &[u16],
-    label: &[u16],
-    q: Query,
-    allowance: u64,
-    room: usize,
-    tuples: &[u16],
-    expect: Listing,
-    found: &mut [u16],
-) -> u64 {
-    let k = q.head_count;
-    let places = sum(times(room, k), spare(allowance, room, k));
+// With this allowance and room, and up to k - 1 places past the last tuple that has room.
+pub(crate) fn list(case: &Case, costs: &Costs, list: &List, allowance: u64, room: usize) -> u64 {
+    let k = case.asked.query.head_count;
+    let x = (allowance as usize).wrapping_add(room);
+    let spare = match k {
+        2 => x % 2,
+        3 => x % 3,
+        _ => 0,
+    };
     list_in(
-        post,
-        label,
-        q,
+        case.asked,
         allowance,
-        places,
+        room.wrapping_mul(k).wrapping_add(spare),
         room % 3,
-        tuples,
-        expect,
-        found,
+        list.tuples(),
+        expected(costs, list.count, room, allowance),
     )
 }

@@ -12,14 +12,13 @@ mod order;
 mod random;
 mod tried;
 
-fn tell(bad: u64) {
-    let _b = io::print_decimal(1, bad);
-    let _c = io::write_all(1, b" wrong\n");
-}
+use limits::Entry;
+use random::Kind;
 
 fn say(what: &[u8], bad: u64) {
     let _a = io::write_all(1, what);
-    tell(bad);
+    let _b = io::print_decimal(1, bad);
+    let _c = io::write_all(1, b" wrong\n");
 }
 
 fn say_of(whose: &[u8], what: &[u8], bad: u64) {
@@ -27,14 +26,14 @@ fn say_of(whose: &[u8], what: &[u8], bad: u64) {
     say(what, bad);
 }
 
-fn tables(whose: &[u8], entry: u8) {
+fn tables(whose: &[u8], entry: Entry) {
     say_of(whose, b"refusal 1, columns: ", limits::columns(entry));
     say_of(whose, b"refusal 1, 1,024 rows: ", limits::most_rows(entry));
     say_of(whose, b"refusal 2: ", limits::post_numbers(entry));
     say_of(whose, b"refusal 3: ", limits::three_rows(entry));
 }
 
-fn queries(whose: &[u8], entry: u8) {
+fn queries(whose: &[u8], entry: Entry) {
     say_of(whose, b"refusal 4, variables: ", limits::variables(entry));
     say_of(whose, b"refusal 4, counts: ", limits::counts(entry));
     say_of(
@@ -52,7 +51,7 @@ fn queries(whose: &[u8], entry: u8) {
     say_of(whose, b"lowest of several: ", limits::lowest(entry));
 }
 
-fn refusals(whose: &[u8], entry: u8) {
+fn refusals(whose: &[u8], entry: Entry) {
     tables(whose, entry);
     queries(whose, entry);
 }
@@ -75,15 +74,12 @@ fn by_hand() {
     say(b"table D, search: ", examples::search());
 }
 
-fn drawn(what: &[u8], first: u64, count: usize, kind: u8, set: u8) {
-    let mut axes = [0u8; 16384];
-    let mut sets = [0u8; 512];
-    let bad = random::cases(first, count, kind, set, &mut axes, &mut sets);
-    say(what, bad);
+fn drawn(what: &[u8], first: u64, count: u64, kind: Kind, set: u8) {
+    say(what, random::cases(first, count, kind, set));
 }
 
 fn searches() {
-    let kind = random::SEARCH;
+    let kind = Kind::Search;
     drawn(
         b"set 1, yes or no, and search after every tuple: ",
         0,
@@ -108,7 +104,7 @@ fn searches() {
 }
 
 fn lists() {
-    let kind = random::EVERY;
+    let kind = Kind::Every;
     drawn(
         b"set 1, listing at every allowance and room: ",
         1000,
@@ -133,7 +129,7 @@ fn lists() {
 }
 
 fn longer_lists() {
-    let kind = random::ABOUT;
+    let kind = Kind::About;
     drawn(
         b"set 1, listing more rows about every cost: ",
         2000,
@@ -158,9 +154,9 @@ fn longer_lists() {
 }
 
 fn main() {
-    refusals(b"yes or no, ", limits::YES_OR_NO);
-    refusals(b"search, ", limits::AFTER);
-    refusals(b"listing, ", 2);
+    refusals(b"yes or no, ", Entry::YesOrNo);
+    refusals(b"search, ", Entry::After);
+    refusals(b"listing, ", Entry::List);
     buffers();
     by_hand();
     searches();

@@ -1,21 +1,16 @@
 -- The functions on parts, lines and names, step by step. Assumes nothing.
-use mathlib.Core.Path.{◌≡◌, refl, sym, ap, ap₂, ◌∙◌, subst}
-use mathlib.Core.Bool.{Bool, true, false, false≢true}
-use mathlib.Core.List.{List, [], ◌∷◌, ◌++◌, append_assoc, append-nil}
-use Prim.Native.Nat.{ℕ, zero, suc, ◌+◌, ◌-◌, ◌≤◌, ◌<◌}
-use native.Mathlib.Numerals.{add-one}
+use Rattle.std.proofs.Common.{◌≡◌, refl, sym, ap, ap₂, ◌∙◌, subst, Bool, true, false, List, [], ◌∷◌, ◌++◌, ℕ, zero, suc, ◌+◌, ◌-◌, ◌≤◌, ◌<◌, add-one, arith, length, get_or, take, drop, length-drop, drop_of_length-le, set, length-set, replicate, drop-cons, get_or-set_same, get_or-set_other, ltb, eqb, eq-eqb, ne_eqb, lt-ltb, le-ltb, ltb-true, ltb-false, unwrap_or, ◌&&◌, ◌||◌, ◌==◌, cond, Some, None, not, one-add, length-append, take_all}
+use mathlib.Core.Bool.{false≢true}
 use native.Mathlib.Decide.{ℕ_discrete}
-use native.Mathlib.Omega.{arith}
-use lib.ListN.{length, get_or, take, drop, length-drop, drop_of_length-le, set, length-set, replicate, length-replicate}
-use Rattle.brackets.specs.Texts.{take_front, take_snoc, take-few}
-use lib.Seq.{drop-cons, get_or-set_same, get_or-set_other}
-use lib.Dec.{ltb, eqb}
-use borrow.Author.Tests.{eq-eqb, ne_eqb, lt-ltb, le-ltb, ltb-true, ltb-false}
+use lib.ListN.{length-replicate}
+use lib.Pointwise.{pointwise}
+use Rattle.brackets.specs.Texts.{take_front}
 use Rattle.meaning.specs.Tests.{◌&◌, ◌or◌}
 use Rattle.meaning.specs.Names.{pick, onto, names_of, too_many, name_of, same, place_from, label_number}
 use Rattle.brackets.specs.Reader.{letters, past}
 use Rattle.brackets.specs.Pieces.{letters-past}
-use Rattle.brackets.specs.Lines.{part, ahead, MarkedTo, Marked, FoundEnds, NoneBegins, NotedBytes}
+use Rattle.brackets.specs.Lines.{part, ahead, MarkedTo, Marked, NoneBegins, NotedBytes}
+use Rattle.std.specs.List.{position, position_or_len}
 
 -- ---- lines
 pub ahead_here : (s : List ℕ) (i : ℕ) → i < length s → get_or s i 0 ≡ 10 → length (ahead (drop i s)) ≡ 0
@@ -25,10 +20,6 @@ ahead_here s i h e = rw (drop-cons s i 0 h, eq-eqb _ _ e)
 pub ahead-on : (s : List ℕ) (i : ℕ) → i < length s → (get_or s i 0 ≡ 10 → ⊥) → length (ahead (drop i s)) ≡ suc (length (ahead (drop (i + 1) s)))
 unfolding ahead pick
 ahead-on s i h n = rw (drop-cons s i 0 h) (rw (ne_eqb _ _ n, add-one))
-
-pub ahead-end : (s : List ℕ) (i : ℕ) → length s ≤ i → length (ahead (drop i s)) ≡ 0
-unfolding ahead
-ahead-end s i h = rw (drop_of_length-le s {i = i} h)
 
 pub ahead-few : (u : List ℕ) → length (ahead u) ≤ length u
 unfolding ahead pick
@@ -84,20 +75,7 @@ pub line-end : (s : List ℕ) (i : ℕ) → length s ≤ i → names_of (drop i 
 unfolding names_of
 line-end s i h = ap names_of (drop_of_length-le s {i = i} h)
 
-take_most : (n : ℕ) (u : List ℕ) → length (take n u) ≤ n
-take_most zero u = omega arith
-take_most (suc n) [] = omega arith
-take_most (suc n) (x ∷ u) = omega (arith, take_most n u)
-
 -- ---- where the names end
-take-set : (ends : List ℕ) (n e : ℕ) → n < length ends → take (n + 1) (set ends n e) ≡ take n ends ++ e ∷ []
-take-set ends n e h = ap (λ (k : ℕ). take k (set ends n e)) (add-one n) ∙ go ends n h
-  where
-    go : (ends : List ℕ) (n : ℕ) → n < length ends → take (suc n) (set ends n e) ≡ take n ends ++ e ∷ []
-    go [] n h = absurd (omega arith)
-    go (x ∷ ends) zero h = refl
-    go (x ∷ ends) (suc n) h = ap (λ (y : List ℕ). x ∷ y) (go ends n (omega arith))
-
 marked_more : (list : List ℕ) (a : ℕ) (ends : List ℕ) (i e : ℕ) → MarkedTo list a ends i → e ≡ i + length (ahead (drop i list)) → e < length list → MarkedTo list a (ends ++ e ∷ []) (e + 1)
 unfolding MarkedTo
 marked_more list a [] i e m h k = (h ∙ ap (λ (j : ℕ). j + length (ahead (drop j list))) (sym m), k, refl)
@@ -124,51 +102,17 @@ marked_count list a (x ∷ ends) m =
     let z = ap length (line-more list a x m.0 (omega (arith, m.0, m.1)) m.1) in
     omega (arith, z, marked_count list (x + 1) ends m.2)
 
-pub marked_none : (list : List ℕ) → MarkedTo list 0 [] 0
-unfolding MarkedTo
-marked_none list = refl
+-- the next end, and the last, of ends that are handed out as `shown`
+module _ (list : List ℕ) (i : ℕ) (ends shown : List ℕ) (e : shown ≡ ends) (k : ℕ) (m : Marked list i (drop k ends)) where
+  pub marked_at : k < length shown → (get_or shown k 0 ≡ i + length (ahead (drop i list))) × (get_or shown k 0 < length list) × Marked list (get_or shown k 0 + 1) (drop (k + 1) ends)
+  unfolding Marked
+  marked_at h =
+      let q = subst (Marked list i) (drop-cons ends k 0 (omega (arith, ap length e))) m in
+      rw e (q.0, q.1, subst (λ (j : ℕ). Marked list (get_or ends k 0 + 1) (drop j ends)) (sym (add-one k)) q.2)
 
-module _ (list ends : List ℕ) (n i : ℕ) (m : MarkedTo list 0 (take n ends) i) (l : length ends ≡ 32) (f : n ≤ 32) where
-  found_all : names_of (drop i list) ≡ [] → FoundEnds list n ends
-  found_all h = record { few = λ k. marked_all list 0 (take n ends) i m h; many = λ k. absurd (omega arith) }
-
-  pub ends_last : (e : ℕ) → e ≡ i + length (ahead (drop i list)) → length list ≤ e → FoundEnds list n ends
-  ends_last e h k = found_all (line_none list i e h k)
-
-  pub ends-end : length list ≤ i → FoundEnds list n ends
-  ends-end k = found_all (line-end list i k)
-
-  module _ (e : ℕ) (h : e ≡ i + length (ahead (drop i list))) (k : e < length list) where
-    pub ends_many : 32 ≤ n → FoundEnds list 33 ends
-    ends_many g =
-        let z = ap length (line-more list i e h (omega (arith, h)) k) in
-        let c = marked_to_count list 0 (take n ends) i m in
-        let d = take-few n ends (omega arith) in
-        record { few = λ q. absurd (omega arith); many = λ q. omega (arith, z, c, d) }
-
-    pub ends_more : n < 32 → MarkedTo list 0 (take (n + 1) (set ends n e)) (e + 1)
-    ends_more g = subst (λ (y : List ℕ). MarkedTo list 0 y (e + 1)) (sym (take-set ends n e (omega arith))) (marked_more list 0 (take n ends) i e m h k)
-
--- what was found tells whether the names are too many
-pub few-names : (list : List ℕ) (n : ℕ) (ends : List ℕ) → FoundEnds list n ends → n ≤ 32 → too_many list ≡ false
-unfolding too_many
-few-names list n ends F h = le-ltb 32 (length (names_of list)) (omega (arith, marked_count list 0 (take n ends) (F.few h), take_most n ends))
-
-pub many_names : (list : List ℕ) (n : ℕ) (ends : List ℕ) → FoundEnds list n ends → 32 < n → too_many list ≡ true
-unfolding too_many
-many_names list n ends F h = lt-ltb 32 (length (names_of list)) (F.many h)
-
--- the next end, and the last
-pub marked_at : (list : List ℕ) (i : ℕ) (ends : List ℕ) (k : ℕ) → k < length ends → Marked list i (drop k ends)
-    → (get_or ends k 0 ≡ i + length (ahead (drop i list))) × (get_or ends k 0 < length list) × Marked list (get_or ends k 0 + 1) (drop (k + 1) ends)
-unfolding Marked
-marked_at list i ends k h m =
-    let q = subst (Marked list i) (drop-cons ends k 0 h) m in
-    (q.0, q.1, subst (λ (j : ℕ). Marked list (get_or ends k 0 + 1) (drop j ends)) (sym (add-one k)) q.2)
-
-pub marked_end : (list : List ℕ) (i : ℕ) (ends : List ℕ) (k : ℕ) → length ends ≤ k → Marked list i (drop k ends) → names_of (drop i list) ≡ []
-unfolding Marked
-marked_end list i ends k h m = subst (Marked list i) (drop_of_length-le ends {i = k} h) m
+  pub marked_end : length shown ≤ k → names_of (drop i list) ≡ []
+  unfolding Marked
+  marked_end h = subst (Marked list i) (drop_of_length-le ends {i = k} (omega (arith, ap length e))) m
 
 -- ---- the place of a name
 module _ (name : List ℕ) (s : List ℕ) (k i e : ℕ) (q : place_from k name (names_of (drop i s)) ≡ place_from 0 name (names_of s)) (h : e ≡ i + length (ahead (drop i s))) where
@@ -201,92 +145,45 @@ part_none : (s : List ℕ) (a b : ℕ) → b ≤ a → part a b s ≡ []
 unfolding part
 part_none s a b h = ap (λ (n : ℕ). take n (drop a s)) (let e : b - a ≡ 0 = omega arith in e)
 
-drop_at : (s : List ℕ) (a n : ℕ) → get_or (drop a s) n 0 ≡ get_or s (a + n) 0
-drop_at s zero n = ap (λ (k : ℕ). get_or s k 0) (let e : n ≡ 0 + n = omega arith in e)
-drop_at [] (suc a) n = refl
-drop_at (x ∷ s) (suc a) n = drop_at s a n ∙ ap (λ (k : ℕ). get_or (x ∷ s) k 0) (let e : suc (a + n) ≡ suc a + n = omega arith in e)
-
-part_snoc : (s : List ℕ) (a i : ℕ) → a ≤ i → i < length s → part a (i + 1) s ≡ part a i s ++ get_or s i 0 ∷ []
-unfolding part
-part_snoc s a i h k =
-    ap (λ (n : ℕ). take n (drop a s)) (let e : i + 1 - a ≡ suc (i - a) = omega arith in e)
-    ∙ take_snoc (drop a s) (i - a) (omega (arith, length-drop a s))
-    ∙ ap (λ (x : ℕ). take (i - a) (drop a s) ++ x ∷ []) (drop_at s a (i - a) ∙ ap (λ (n : ℕ). get_or s n 0) (let e : a + (i - a) ≡ i = omega arith in e))
-
-part_length : (s : List ℕ) (a b : ℕ) → a ≤ b → b ≤ length s → length (part a b s) ≡ b - a
-unfolding part
-part_length s a b h k = take-few (b - a) (drop a s) (omega (arith, length-drop a s))
-
 -- ---- the same bytes
-same_lengths : (x y : List ℕ) → (length x ≡ length y → ⊥) → same x y ≡ false
+pub equal_same : (x y : List ℕ) → pointwise eqb x y ≡ same x y
 unfolding same ◌&◌
-same_lengths [] [] n = absurd (n refl)
-same_lengths [] (b ∷ y) n = refl
-same_lengths (a ∷ x) [] n = refl
-same_lengths (a ∷ x) (b ∷ y) n = go (eqb a b) (same_lengths x y (λ e. n (ap suc e)))
+equal_same [] [] = refl
+equal_same [] (b ∷ y) = refl
+equal_same (a ∷ x) [] = refl
+equal_same (a ∷ x) (b ∷ y) = go (eqb a b) (equal_same x y)
   where
-    go : (t : Bool) → same x y ≡ false → (t & same x y) ≡ false
+    go : (t : Bool) → pointwise eqb x y ≡ same x y → (t && pointwise eqb x y) ≡ (t & same x y)
     go true h = h
     go false h = refl
 
-pub other_length : (s : List ℕ) (a b : ℕ) (t : List ℕ) (c d : ℕ) → a ≤ b → b ≤ length s → c ≤ d → d ≤ length t → (b - a ≡ d - c → ⊥) → false ≡ same (part a b s) (part c d t)
-other_length s a b t c d h i j k n = sym (same_lengths _ _ (λ e. n (sym (part_length s a b h i) ∙ e ∙ part_length t c d j k)))
-
-module _ (s : List ℕ) (i b : ℕ) (t : List ℕ) (j d : ℕ) (h : i < b) (k : b ≤ length s) (e : b - i ≡ d - j) (l : d ≤ length t) where
-  both_cons : same (part i b s) (part j d t) ≡ (eqb (get_or s i 0) (get_or t j 0) & same (part (i + 1) b s) (part (j + 1) d t))
-  unfolding same
-  both_cons = ap₂ same (part_cons s i b h k) (part_cons t j d (omega arith) l)
-
-  pub same_not : (get_or s i 0 ≡ get_or t j 0 → ⊥) → false ≡ same (part i b s) (part j d t)
-  unfolding ◌&◌
-  same_not n = sym (both_cons ∙ ap (λ (q : Bool). q & same (part (i + 1) b s) (part (j + 1) d t)) (ne_eqb _ _ n))
-
-  pub same-on : get_or s i 0 ≡ get_or t j 0 → same (part (i + 1) b s) (part (j + 1) d t) ≡ same (part i b s) (part j d t)
-  unfolding ◌&◌
-  same-on q = sym (both_cons ∙ ap (λ (p : Bool). p & same (part (i + 1) b s) (part (j + 1) d t)) (eq-eqb _ _ q))
-
-pub same_end : (s : List ℕ) (i b : ℕ) (t : List ℕ) (j d : ℕ) → b ≤ i → b - i ≡ d - j → true ≡ same (part i b s) (part j d t)
-unfolding same
-same_end s i b t j d h e = sym (ap₂ same (part_none s i b h) (part_none t j d (omega arith)))
-
 -- ---- a label's name
-module _ (s : List ℕ) (a i b : ℕ) (h : a ≤ i) (m : i < b) (k : b ≤ length s) (q : part a i s ++ name_of (part i b s) ≡ name_of (part a b s)) where
-  name_cons : name_of (part i b s) ≡ pick (eqb (get_or s i 0) 45 or eqb (get_or s i 0) 61) [] (get_or s i 0 ∷ name_of (part (i + 1) b s))
-  unfolding name_of
-  name_cons = ap name_of (part_cons s i b m k)
+abbrev pub ends_name : ℕ → Bool
+ends_name b = (b == 45) || (b == 61)
 
-  name_stop : name_of (part i b s) ≡ [] → part a i s ≡ name_of (part a b s)
-  name_stop e = sym (append-nil (part a i s)) ∙ ap (λ (y : List ℕ). part a i s ++ y) (sym e) ∙ q
+name_front : (l : List ℕ) → take (position_or_len ends_name l) l ≡ name_of l
+unfolding name_of pick ◌or◌
+name_front [] = refl
+name_front (x ∷ l) = go (eqb x 45) (eqb x 61) (name_front l)
+  where
+    go : (s t : Bool) → take (position_or_len ends_name l) l ≡ name_of l → take (cond (not (s || t)) (1 + position_or_len ends_name l) 0) (x ∷ l) ≡ pick (s or t) [] (x ∷ name_of l)
+    go true t h = refl
+    go false true h = refl
+    go false false h = ap (λ (k : ℕ). take k (x ∷ l)) (one-add (position_or_len ends_name l)) ∙ ap (λ (y : List ℕ). x ∷ y) h
 
-  pub name_dash : get_or s i 0 ≡ 45 → part a i s ≡ name_of (part a b s)
-  unfolding pick ◌or◌
-  name_dash e = name_stop (name_cons ∙ rw (eq-eqb (get_or s i 0) 45 e))
-
-  pub name_equals : (get_or s i 0 ≡ 45 → ⊥) → get_or s i 0 ≡ 61 → part a i s ≡ name_of (part a b s)
-  unfolding pick ◌or◌
-  name_equals n e = name_stop (name_cons ∙ rw (ne_eqb (get_or s i 0) 45 n, eq-eqb (get_or s i 0) 61 e))
-
-  pub name_on : (get_or s i 0 ≡ 45 → ⊥) → (get_or s i 0 ≡ 61 → ⊥) → part a (i + 1) s ++ name_of (part (i + 1) b s) ≡ name_of (part a b s)
-  unfolding pick ◌or◌
-  name_on n o =
-      ap (λ (y : List ℕ). y ++ name_of (part (i + 1) b s)) (part_snoc s a i h (omega arith))
-      ∙ append_assoc (part a i s) (get_or s i 0 ∷ []) (name_of (part (i + 1) b s))
-      ∙ ap (λ (y : List ℕ). part a i s ++ y) (sym (name_cons ∙ rw (ne_eqb (get_or s i 0) 45 n, ne_eqb (get_or s i 0) 61 o))) ∙ q
-
-pub name_start : (s : List ℕ) (a b : ℕ) → part a a s ++ name_of (part a b s) ≡ name_of (part a b s)
-name_start s a b = ap (λ (y : List ℕ). y ++ name_of (part a b s)) (part_none s a a (omega arith))
-
-pub name_end : (s : List ℕ) (a i b : ℕ) → b ≤ i → part a i s ++ name_of (part i b s) ≡ name_of (part a b s) → part a i s ≡ name_of (part a b s)
-unfolding name_of
-name_end s a i b h q = sym (append-nil (part a i s)) ∙ ap (λ (y : List ℕ). part a i s ++ name_of y) (sym (part_none s i b h)) ∙ q
+pub name_is : (l : List ℕ) → take (unwrap_or (position ends_name l) (length l)) l ≡ name_of l
+name_is l = go (ltb (position_or_len ends_name l) (length l)) refl
+  where
+    go : (b : Bool) → ltb (position_or_len ends_name l) (length l) ≡ b → take (unwrap_or (cond b (Some (position_or_len ends_name l)) None) (length l)) l ≡ name_of l
+    go true e = name_front l
+    go false e = take_all (length l) l (omega arith) ∙ sym (take_all (position_or_len ends_name l) l (ltb-false _ _ e)) ∙ name_front l
 
 pub number_of : (list label name : List ℕ) (r : ℕ) → name ≡ name_of label → r ≡ place_from 0 name (names_of list) → r ≡ label_number list label
 unfolding label_number
 number_of list label name r e q = q ∙ ap (λ (n : List ℕ). place_from 0 n (names_of list)) e
 
 -- ---- a label in the text
-pub label-part : (s : List ℕ) (at e : ℕ) → length (letters 64 (drop at s)) ≡ e - at → part at e s ≡ letters 64 (drop at s)
-unfolding part
+pub label-part : (s : List ℕ) (at e : ℕ) → length (letters 64 (drop at s)) ≡ e - at → take (e - at) (drop at s) ≡ letters 64 (drop at s)
 label-part s at e h =
     ap₂ (λ (n : ℕ) (u : List ℕ). take n u) (sym h) (sym (letters-past 64 (drop at s))) ∙ take_front (letters 64 (drop at s)) (past 64 (drop at s))
 
@@ -298,11 +195,10 @@ none_place b rest ([] ∷ names) k h = none_place b rest names (suc k) h
 none_place b rest ((y ∷ n) ∷ names) k h = none_place b rest names (suc k) h.1 ∙ ap (λ (z : Bool). pick (z & same rest n) k (place_from (suc k) (b ∷ rest) names)) (sym (ne_eqb b y h.0))
 
 -- a label that begins with such a byte has no number
-pub number_none : (text list : List ℕ) (a b : ℕ) → a < b → b ≤ length text → (get_or text a 0 ≡ 45 → ⊥) → (get_or text a 0 ≡ 61 → ⊥) → NoneBegins (get_or text a 0) (names_of list) → 65535 ≡ label_number list (part a b text)
-unfolding label_number name_of part ◌or◌ pick
-number_none text list a b l f dash equal none =
-    let n : b - a ≡ suc (b - a - 1) = omega arith in
-    rw (n, drop-cons text a 0 (omega arith), ne_eqb (get_or text a 0) 45 dash, ne_eqb (get_or text a 0) 61 equal) (none_place (get_or text a 0) _ (names_of list) 0 none)
+pub number_none : (list label : List ℕ) → 0 < length label → (get_or label 0 0 ≡ 45 → ⊥) → (get_or label 0 0 ≡ 61 → ⊥) → NoneBegins (get_or label 0 0) (names_of list) → 65535 ≡ label_number list label
+unfolding label_number name_of ◌or◌ pick
+number_none list [] l dash equal none = absurd (omega arith)
+number_none list (x ∷ label) l dash equal none = rw (ne_eqb x 45 dash, ne_eqb x 61 equal) (none_place x _ (names_of list) 0 none)
 
 -- a byte begins no name from i on where it is not the byte at i and begins no name behind the line's end e
 begins_more : (list : List ℕ) (i e b : ℕ) → e ≡ i + length (ahead (drop i list)) → i < length list → (b ≡ get_or list i 0 → ⊥) → NoneBegins b (names_of (drop (e + 1) list)) → NoneBegins b (names_of (drop i list))
@@ -348,3 +244,85 @@ noted-start list = record {
     λ r. r,
   );
 }
+
+-- ---- the list read up to i, byte by byte
+-- its line begins at `start`; the names before that are marked, and the first bytes of the names that begin before i are noted
+pub record ReadTo (list : List ℕ) (i : ℕ) (begins : Bool) (ends : List ℕ) (noted : List Bool) : Type 0 where
+  pub start : ℕ
+  pub few : length ends ≤ 32
+  pub marked : MarkedTo list 0 ends start
+  pub in_list : start ≤ i
+  pub line : start + length (ahead (drop start list)) ≡ i + length (ahead (drop i list))
+  pub noted_to : NotedTo list (pick begins i (i + length (ahead (drop i list)) + 1)) noted
+
+pub read_none : (list : List ℕ) → ReadTo list 0 true [] (set (set (replicate 256 false) 45 true) 61 true)
+unfolding MarkedTo pick
+read_none list = record { start = 0; few = omega arith; marked = refl; in_list = omega arith; line = refl; noted_to = noted-start list }
+
+module _ (list : List ℕ) (i : ℕ) (begins : Bool) (ends : List ℕ) (noted : List Bool) (R : ReadTo list i begins ends noted) where
+  module _ (l : i < length list) where
+    pub noted_line : get_or list i 0 < 256 → (noted' : List Bool) → (begins ≡ true → noted' ≡ set noted (get_or list i 0) true) → (begins ≡ false → noted' ≡ noted)
+        → NotedTo list (i + length (ahead (drop i list)) + 1) noted'
+    unfolding pick
+    noted_line b noted' y n = go begins R.noted_to y n
+      where
+        go : (begins : Bool) → NotedTo list (pick begins i (i + length (ahead (drop i list)) + 1)) noted → (begins ≡ true → noted' ≡ set noted (get_or list i 0) true) → (begins ≡ false → noted' ≡ noted)
+            → NotedTo list (i + length (ahead (drop i list)) + 1) noted'
+        go true N y n = rw (y refl) (noted_more list i (i + length (ahead (drop i list))) noted refl l b N)
+        go false N y n = rw (n refl) N
+
+    pub read_on : (get_or list i 0 ≡ 10 → ⊥) → (noted' : List Bool) → NotedTo list (i + length (ahead (drop i list)) + 1) noted' → ReadTo list (i + 1) (eqb (get_or list i 0) 10) ends noted'
+    unfolding pick
+    read_on n noted' N =
+        let a = ahead-on list i l n in
+        rw (ne_eqb _ _ n)
+        (record {
+          start = R.start;
+          few = R.few;
+          marked = R.marked;
+          in_list = omega (arith, R.in_list);
+          line = omega (arith, R.line);
+          noted_to = subst (λ (k : ℕ). NotedTo list k noted') (let e : i + length (ahead (drop i list)) + 1 ≡ i + 1 + length (ahead (drop (i + 1) list)) + 1 = omega arith in e) N;
+        })
+
+    module _ (h : get_or list i 0 ≡ 10) where
+      ends_here : i ≡ R.start + length (ahead (drop R.start list))
+      ends_here = omega (arith, R.line, ahead_here list i l h)
+
+      pub read_line : length ends < 32 → (noted' : List Bool) → NotedTo list (i + length (ahead (drop i list)) + 1) noted' → ReadTo list (i + 1) (eqb (get_or list i 0) 10) (ends ++ i ∷ []) noted'
+      unfolding pick
+      read_line f noted' N =
+          rw (eq-eqb _ _ h)
+          (record {
+            start = i + 1;
+            few = simp length-append (omega arith);
+            marked = marked_more list 0 ends R.start i R.marked ends_here l;
+            in_list = omega arith;
+            line = refl;
+            noted_to = subst (λ (k : ℕ). NotedTo list k noted') (let e : i + length (ahead (drop i list)) + 1 ≡ i + 1 = omega (arith, ahead_here list i l h) in e) N;
+          })
+
+      pub read_many : length ends ≡ 32 → too_many list ≡ true
+      unfolding too_many
+      read_many f =
+          let z = ap length (line-more list R.start i ends_here (omega (arith, R.in_list)) l) in
+          lt-ltb 32 (length (names_of list)) (omega (arith, z, marked_to_count list 0 ends R.start R.marked))
+
+  module _ (l : length list ≤ i) where
+    last_line : names_of (drop R.start list) ≡ []
+    last_line = line_none list R.start (R.start + length (ahead (drop R.start list))) refl (omega (arith, R.line))
+
+    pub read_marked : Marked list 0 ends
+    read_marked = marked_all list 0 ends R.start R.marked last_line
+
+    pub read_few : too_many list ≡ false
+    unfolding too_many
+    read_few = le-ltb 32 (length (names_of list)) (omega (arith, R.few, marked_count list 0 ends read_marked))
+
+    pub read_noted : NotedBytes list noted
+    unfolding pick
+    read_noted = go begins R.noted_to
+      where
+        go : (begins : Bool) → NotedTo list (pick begins i (i + length (ahead (drop i list)) + 1)) noted → NotedBytes list noted
+        go true N = noted-all list i noted l N
+        go false N = noted-all list _ noted (let e : length list ≤ i + length (ahead (drop i list)) + 1 = omega arith in e) N

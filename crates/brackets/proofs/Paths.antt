@@ -1,24 +1,15 @@
 -- The tree reader and the body reader path by path. Assumes nothing.
-use mathlib.Core.Path.{◌≡◌, refl, sym, ap, ap₂, ◌∙◌, subst}
-use mathlib.Core.Bool.{true, false}
-use mathlib.Core.List.{List, [], ◌∷◌, ◌++◌}
-use Prim.Native.Nat.{ℕ, zero, suc, ◌+◌, ◌-◌, ◌*◌, ◌≤◌, ◌<◌}
-use native.Mathlib.Nat.{add-zero, add-suc, suc-add}
-use native.Mathlib.Numerals.{add-one}
+use Rattle.std.proofs.Common.{Ok, Err, take, ◌⊎◌, inl, inr, ◌≡◌, refl, sym, ap, ap₂, ◌∙◌, subst, true, false, List, [], ◌∷◌, ◌++◌, ℕ, zero, suc, ◌+◌, ◌-◌, ◌*◌, ◌≤◌, ◌<◌, add-zero, add-suc, suc-add, add-one, arith, length, get_or, set, drop, length-append, length-drop, drop_of_length-le, drop-cons, ltb, lt-ltb, le-ltb, eq-eqb, ne_eqb}
 use native.Mathlib.Decide.{dec_lt, ℕ_discrete}
-use native.Mathlib.Omega.{arith}
-use lib.ListN.{length, get_or, set, drop, length-append, length-drop, drop_of_length-le, get_or-eq_default}
-use lib.Seq.{drop-cons, sets, set_comm}
-use lib.Dec.{ltb}
-use borrow.Author.Tests.{lt-ltb, le-ltb, eq-eqb, ne_eqb}
+use lib.ListN.{get_or-eq_default}
+use lib.Seq.{sets, set_comm}
 use Rattle.meaning.specs.Tests.{Is, ◌&◌}
 use Rattle.meaning.specs.Names.{pick, label_number}
 use Rattle.brackets.specs.Both.{and_in}
 use Rattle.meaning.specs.Sentences.{white, Tree, Trees, leaf, node, more, posts, postss, labels, labelss, size}
 use Rattle.brackets.specs.Reader.{skip, Got, got, wrong, over, lost, then, letters, past, blanks, empty, heads, closing, worded, bodied, labelled, limited, followed, read_tree, read_trees}
-use Rattle.brackets.specs.Numbers.{read-refused, read_rows, read-end}
+use Rattle.brackets.specs.Numbers.{Answer, read, read-refused, read_rows, read-end}
 use Rattle.brackets.specs.Meets.{Letters, Read-as, Meets, MeetsTree, MeetsBody, LabelRead, MeetsLabel, Closed, MeetsLeaf}
-use Rattle.brackets.specs.Lines.{part}
 use Rattle.brackets.specs.Texts.{inside-at}
 use Rattle.brackets.proofs.Lists.{label-part}
 use Rattle.brackets.proofs.Scanning.{skip-on, skip_here, inner_not_white, inner_not_41, letters-short, letters_long}
@@ -27,8 +18,6 @@ use Rattle.brackets.specs.Pieces.{letters-past, blanks-skip, and_not_l, and_not_
 use Rattle.brackets.specs.Right.{RightTree, RightTrees, tree_right, trees_right, write_long}
 use Rattle.meaning.specs.declared.Refusal.{Refusal}
 use Rattle.meaning.specs.declared.Refusal.TheVariants.{Brackets, TooLarge}
-use Rattle.meaning.specs.declared.SentenceAnswer.{SentenceAnswer}
-use Rattle.meaning.specs.declared.SentenceAnswer.TheVariants.{Read, Refused}
 
 -- ---- places and rests
 pub head-drop : (s : List ℕ) (k : ℕ) → get_or (drop k s) 0 0 ≡ get_or s k 0
@@ -98,9 +87,9 @@ sets_more l i (v ∷ vs) ws =
 
 -- ---- answers
 module _ {A : Type 0} (ps ls : A → List ℕ) (s : List ℕ) (rows : ℕ) (post post' lab lab' : List ℕ) where
-  pub meets_wrong : (g : Got A) (k : ℕ) → k ≤ length s → g ≡ wrong (drop k s) → Meets ps ls s rows g (Refused (Brackets k)) post post' lab lab'
+  pub meets_wrong : (g : Got A) (k : ℕ) → k ≤ length s → g ≡ wrong (drop k s) → Meets ps ls s rows g (Err (Brackets k)) post post' lab lab'
   unfolding Meets
-  meets_wrong g k h e = rw e (ap (λ (k : ℕ). Refused (Brackets k)) (sym (place_of s k h)))
+  meets_wrong g k h e = rw e (ap (λ (k : ℕ). Err (Brackets k)) (sym (place_of s k h)))
 
 -- ---- the tree reader
 posts_node : (n : ℕ) (l b : List ℕ) (ts : Trees) → posts n (node l b ts) ≡ (n + length (postss n ts)) ∷ postss n ts
@@ -132,23 +121,17 @@ module _ (u : List ℕ) (lv room f : ℕ) where
       tree_trees k h = rw (N, e, k, h)
 
 module _ (s list : List ℕ) (at lv rows : ℕ) (post post' lab lab' : List ℕ) where
-  pub tree_over : 1 ≤ at → at ≤ length s → (ltb 0 lv & ltb 0 (1024 - rows)) ≡ false → MeetsTree s list at lv rows (Refused (TooLarge (at - 1))) post post' lab lab'
+  pub tree_over : 1 ≤ at → at ≤ length s → (ltb 0 lv & ltb 0 (1024 - rows)) ≡ false → MeetsTree s list at lv rows (Err (TooLarge (at - 1))) post post' lab lab'
   unfolding Meets read_tree
   tree_over a b N zero = tt
-  tree_over a b N (suc f) = rw (tree_far (drop at s) lv (1024 - rows) f N) (ap (λ (k : ℕ). Refused (TooLarge k)) (let e = length-drop at s in omega arith))
-
-  pub tree_deep : 1 ≤ at → at ≤ length s → lv ≡ 0 → MeetsTree s list at lv rows (Refused (TooLarge (at - 1))) post post' lab lab'
-  tree_deep a b e = tree_over a b (and_not_l (ltb 0 lv) _ (le-ltb 0 lv (omega arith)))
-
-  pub tree_many : 1 ≤ at → at ≤ length s → 1024 ≤ rows → MeetsTree s list at lv rows (Refused (TooLarge (at - 1))) post post' lab lab'
-  tree_many a b e = tree_over a b (and_not_r (ltb 0 lv) _ (le-ltb 0 (1024 - rows) (omega arith)))
+  tree_over a b N (suc f) = rw (tree_far (drop at s) lv (1024 - rows) f N) (ap (λ (k : ℕ). Err (TooLarge k)) (let e = length-drop at s in omega arith))
 
   -- the label ends at e
   module _ (l : lv ≡ 0 → ⊥) (m : rows < 1024) (e : ℕ) (E : drop e s ≡ past 64 (drop at s)) (i : at ≤ e) (j : e ≤ length s) where
     within_limits : Is (ltb 0 lv & ltb 0 (1024 - rows))
     within_limits = and_in _ _ (lt-ltb 0 lv (omega (arith, l))) (lt-ltb 0 (1024 - rows) (omega arith))
 
-    pub tree_no_label : e ≡ at → MeetsTree s list at lv rows (Refused (Brackets at)) post post' lab lab'
+    pub tree_no_label : e ≡ at → MeetsTree s list at lv rows (Err (Brackets at)) post post' lab lab'
     unfolding Meets read_tree
     tree_no_label q zero = tt
     tree_no_label q (suc f) =
@@ -163,7 +146,7 @@ module _ (s list : List ℕ) (at lv rows : ℕ) (post post' lab lab' : List ℕ)
         gap-count : length (blanks (past 64 (drop at s))) ≡ w - e
         gap-count = ap (λ (q : List ℕ). length (blanks q)) (sym E) ∙ blanks-count s e w x y W
 
-        pub tree_no_gap : w ≡ e → MeetsTree s list at lv rows (Refused (Brackets e)) post post' lab lab'
+        pub tree_no_gap : w ≡ e → MeetsTree s list at lv rows (Err (Brackets e)) post post' lab lab'
         unfolding Meets read_tree
         tree_no_gap q zero = tt
         tree_no_gap q (suc f) =
@@ -171,48 +154,48 @@ module _ (s list : List ℕ) (at lv rows : ℕ) (post post' lab lab' : List ℕ)
             (tree_tight (drop at s) lv (1024 - rows) f within_limits labelled_yes (empty_yes _ (omega (arith, gap-count))) ∙ ap wrong (sym E))
 
 -- a body and then a closing parenthesis
-module _ (s list : List ℕ) (rows n : ℕ) (l b : List ℕ) (g : Got Trees) (r : SentenceAnswer) (post post₁ lab₀ lab₁ : List ℕ)
+module _ (s list : List ℕ) (rows n : ℕ) (l b : List ℕ) (g : Got Trees) (r : Answer) (post post₁ lab₀ lab₁ : List ℕ)
     (B : Meets (postss n) (labelss (label_number list)) s (rows + 1) g r post post₁ lab₀ lab₁) where
-  shut_no : (next after : ℕ) → r ≡ Read after next → (get_or s next 0 ≡ 41 → ⊥) → (post' lab lab' : List ℕ)
-      → Meets (posts n) (labels (label_number list)) s rows (then g (λ ts. closing (node l b ts))) (Refused (Brackets next)) post post' lab lab'
+  shut_no : (next after : ℕ) → r ≡ read after next → (get_or s next 0 ≡ 41 → ⊥) → (post' lab lab' : List ℕ)
+      → Meets (posts n) (labels (label_number list)) s rows (then g (λ ts. closing (node l b ts))) (Err (Brackets next)) post post' lab lab'
   unfolding Meets then closing pick
   shut_no next after d q post' lab lab' = go g B
     where
-      go : (g : Got Trees) → Meets (postss n) (labelss (label_number list)) s (rows + 1) g r post post₁ lab₀ lab₁ → Meets (posts n) (labels (label_number list)) s rows (then g (λ ts. closing (node l b ts))) (Refused (Brackets next)) post post' lab lab'
+      go : (g : Got Trees) → Meets (postss n) (labelss (label_number list)) s (rows + 1) g r post post₁ lab₀ lab₁ → Meets (posts n) (labels (label_number list)) s rows (then g (λ ts. closing (node l b ts))) (Err (Brackets next)) post post' lab lab'
       go (got x rest) M =
-          let e : M.next ≡ next = read-end _ _ _ _ (sym M.is ∙ d) in
+          let e : M.next ≡ next = read-end _ _ (sym M.is ∙ d) in
           let R : rest ≡ drop next s = M.rest_is ∙ ap (λ (k : ℕ). drop k s) e in
-          rw (ap (heads 41) R ∙ heads-no s next 41 q) (ap (λ (k : ℕ). Refused (Brackets k)) (sym (place_of s next (omega (arith, M.in_text, e))) ∙ ap (λ (y : List ℕ). length s - length y) (sym R)))
-      go (wrong rest) M = absurd (read-refused _ _ _ (sym d ∙ M))
-      go (over rest) M = absurd (read-refused _ _ _ (sym d ∙ M))
+          rw (ap (heads 41) R ∙ heads-no s next 41 q) (ap (λ (k : ℕ). Err (Brackets k)) (sym (place_of s next (omega (arith, M.in_text, e))) ∙ ap (λ (y : List ℕ). length s - length y) (sym R)))
+      go (wrong rest) M = absurd (read-refused _ _ (sym d ∙ M))
+      go (over rest) M = absurd (read-refused _ _ (sym d ∙ M))
       go lost M = tt
 
-  shut_refused : (why : Refusal) → r ≡ Refused why → (post' lab lab' : List ℕ)
-      → Meets (posts n) (labels (label_number list)) s rows (then g (λ ts. closing (node l b ts))) (Refused why) post post' lab lab'
+  shut_refused : (why : Refusal) → r ≡ Err why → (post' lab lab' : List ℕ)
+      → Meets (posts n) (labels (label_number list)) s rows (then g (λ ts. closing (node l b ts))) (Err why) post post' lab lab'
   unfolding Meets then closing
   shut_refused why d post' lab lab' = go g B
     where
-      go : (g : Got Trees) → Meets (postss n) (labelss (label_number list)) s (rows + 1) g r post post₁ lab₀ lab₁ → Meets (posts n) (labels (label_number list)) s rows (then g (λ ts. closing (node l b ts))) (Refused why) post post' lab lab'
-      go (got x rest) M = absurd (read-refused _ _ _ (sym M.is ∙ d))
+      go : (g : Got Trees) → Meets (postss n) (labelss (label_number list)) s (rows + 1) g r post post₁ lab₀ lab₁ → Meets (posts n) (labels (label_number list)) s rows (then g (λ ts. closing (node l b ts))) (Err why) post post' lab lab'
+      go (got x rest) M = absurd (read-refused _ _ (sym M.is ∙ d))
       go (wrong rest) M = sym d ∙ M
       go (over rest) M = sym d ∙ M
       go lost M = tt
 
-  shut_yes : (next after v : ℕ) → r ≡ Read after next → get_or s next 0 ≡ 41 → next < length s → (lab : List ℕ) → lab₀ ≡ set lab rows (label_number list l) → v ≡ n + (after - (rows + 1))
-      → Meets (posts n) (labels (label_number list)) s rows (then g (λ ts. closing (node l b ts))) (Read after (next + 1)) post (set post₁ rows v) lab lab₁
+  shut_yes : (next after v : ℕ) → r ≡ read after next → get_or s next 0 ≡ 41 → next < length s → (lab : List ℕ) → lab₀ ≡ set lab rows (label_number list l) → v ≡ n + (after - (rows + 1))
+      → Meets (posts n) (labels (label_number list)) s rows (then g (λ ts. closing (node l b ts))) (read after (next + 1)) post (set post₁ rows v) lab lab₁
   unfolding Meets then closing pick labels
   shut_yes next after v d q i lab L Q = go g B
     where
-      go : (g : Got Trees) → Meets (postss n) (labelss (label_number list)) s (rows + 1) g r post post₁ lab₀ lab₁ → Meets (posts n) (labels (label_number list)) s rows (then g (λ ts. closing (node l b ts))) (Read after (next + 1)) post (set post₁ rows v) lab lab₁
+      go : (g : Got Trees) → Meets (postss n) (labelss (label_number list)) s (rows + 1) g r post post₁ lab₀ lab₁ → Meets (posts n) (labels (label_number list)) s rows (then g (λ ts. closing (node l b ts))) (read after (next + 1)) post (set post₁ rows v) lab lab₁
       go (got x rest) M =
-          let e : M.next ≡ next = read-end _ _ _ _ (sym M.is ∙ d) in
-          let c : rows + 1 + length (postss n x) ≡ after = read_rows _ _ _ _ (sym M.is ∙ d) in
+          let e : M.next ≡ next = read-end _ _ (sym M.is ∙ d) in
+          let c : rows + 1 + length (postss n x) ≡ after = read_rows _ _ (sym M.is ∙ d) in
           let R : rest ≡ drop next s = M.rest_is ∙ ap (λ (k : ℕ). drop k s) e in
           let p : v ≡ n + length (postss n x) = Q ∙ omega arith in
           rw (ap (heads 41) R ∙ heads_yes s next 41 q, posts_node n l b x)
           (record {
             next = next + 1;
-            is = ap (λ (k : ℕ). Read k (next + 1)) (omega arith);
+            is = ap (λ (k : ℕ). read k (next + 1)) (omega arith);
             rest_is = ap (drop 1) R ∙ drop-one s next;
             in_text = omega arith;
             few = omega (arith, M.few);
@@ -220,28 +203,28 @@ module _ (s list : List ℕ) (rows n : ℕ) (l b : List ℕ) (g : Got Trees) (r 
             labels_are = M.labels_are ∙ ap₂ (λ (y : List ℕ) (k : ℕ). sets y k (labelss (label_number list) x)) L (add-one rows);
             same = ap suc M.same;
           })
-      go (wrong rest) M = absurd (read-refused _ _ _ (sym d ∙ M))
-      go (over rest) M = absurd (read-refused _ _ _ (sym d ∙ M))
+      go (wrong rest) M = absurd (read-refused _ _ (sym d ∙ M))
+      go (over rest) M = absurd (read-refused _ _ (sym d ∙ M))
       go lost M = tt
 
 -- the label reader
 module _ (s : List ℕ) (at lv rows : ℕ) where
-  label-refused : (why : Refusal) → ((list post post' lab lab' : List ℕ) → MeetsTree s list at lv rows (Refused why) post post' lab lab') → MeetsLabel s at lv rows (Refused why)
-  unfolding MeetsLabel
+  label-refused : (why : Refusal) → ((list post post' lab lab' : List ℕ) → MeetsTree s list at lv rows (Err why) post post' lab lab') → MeetsLabel s at lv rows (Err why)
   label-refused why h = h
 
-  pub label_deep : 1 ≤ at → at ≤ length s → lv ≡ 0 → MeetsLabel s at lv rows (Refused (TooLarge (at - 1)))
-  label_deep a b z = label-refused _ (λ list post post' lab lab'. tree_deep s list at lv rows post post' lab lab' a b z)
-
-  pub label_many : 1 ≤ at → at ≤ length s → 1024 ≤ rows → MeetsLabel s at lv rows (Refused (TooLarge (at - 1)))
-  label_many a b z = label-refused _ (λ list post post' lab lab'. tree_many s list at lv rows post post' lab lab' a b z)
+  pub label_over : 1 ≤ at → at ≤ length s → (lv ≡ 0) ⊎ ((lv ≡ 0 → ⊥) × (1024 ≤ rows)) → MeetsLabel s at lv rows (Err (TooLarge (at - 1)))
+  label_over a b z = label-refused _ (λ list post post' lab lab'. tree_over s list at lv rows post post' lab lab' a b (no_room z))
+    where
+      no_room : (lv ≡ 0) ⊎ ((lv ≡ 0 → ⊥) × (1024 ≤ rows)) → (ltb 0 lv & ltb 0 (1024 - rows)) ≡ false
+      no_room (inl e) = and_not_l (ltb 0 lv) _ (le-ltb 0 lv (omega arith))
+      no_room (inr e) = and_not_r (ltb 0 lv) _ (le-ltb 0 (1024 - rows) (omega (arith, e.1)))
 
   module _ (l : lv ≡ 0 → ⊥) (m : rows < 1024) (e : ℕ) (L : Letters s at e) where
-    pub label_none : e ≡ at → MeetsLabel s at lv rows (Refused (Brackets at))
+    pub label_none : e ≡ at → MeetsLabel s at lv rows (Err (Brackets at))
     label_none q =
         label-refused _ (λ list post post' lab lab'. tree_no_label s list at lv rows post post' lab lab' l m e (letters-short s at e L (omega arith)) L.begins L.in_text q)
 
-    pub label_long : 64 < e - at → MeetsLabel s at lv rows (Refused (Brackets (at + 64)))
+    pub label_long : 64 < e - at → MeetsLabel s at lv rows (Err (Brackets (at + 64)))
     label_long q =
         let z = letters_long s at e L q in
         let k : at + 64 ≤ length s = omega (arith, L.in_text) in
@@ -249,13 +232,12 @@ module _ (s : List ℕ) (at lv rows : ℕ) where
         (at + 64) (sym (skip_here s (at + 64) (inner_not_white _ z.1))) (omega arith) k refl)
 
     module _ (n : e ≡ at → ⊥) (k : e - at ≤ 64) where
-      pub label_tight : white (get_or s e 0) ≡ false → MeetsLabel s at lv rows (Refused (Brackets e))
+      pub label_tight : white (get_or s e 0) ≡ false → MeetsLabel s at lv rows (Err (Brackets e))
       label_tight q =
           label-refused _ (λ list post post' lab lab'. tree_no_gap s list at lv rows post post' lab lab' l m e (letters-short s at e L k) L.begins L.in_text n
           e (sym (skip_here s e q)) (omega arith) L.in_text refl)
 
-      pub label_done : Is (white (get_or s e 0)) → (w : ℕ) → drop w s ≡ skip (drop (e + 1) s) → e + 1 ≤ w → w ≤ length s → MeetsLabel s at lv rows (Read e w)
-      unfolding MeetsLabel
+      pub label_done : Is (white (get_or s e 0)) → (w : ℕ) → drop w s ≡ skip (drop (e + 1) s) → e + 1 ≤ w → w ≤ length s → MeetsLabel s at lv rows (Ok (record { end = e; body = w }))
       label_done q w W x y =
           record {
             deep = l;
@@ -266,15 +248,6 @@ module _ (s : List ℕ) (at lv rows : ℕ) where
             gap-end = W ∙ skip-on s e q;
             in_text = y;
           }
-
-  module _ (r : SentenceAnswer) (M : MeetsLabel s at lv rows r) where
-    pub label-read : (e w : ℕ) → r ≡ Read e w → LabelRead s at lv rows e w
-    unfolding MeetsLabel
-    label-read e w d = subst (MeetsLabel s at lv rows) d M
-
-    pub tree_unlabelled : (why : Refusal) → r ≡ Refused why → (list post post' lab lab' : List ℕ) → MeetsTree s list at lv rows (Refused why) post post' lab lab'
-    unfolding MeetsLabel
-    tree_unlabelled why d = subst (MeetsLabel s at lv rows) d M
 
 room_in : (rows : ℕ) → 1024 - (rows + 1) ≡ 1024 - rows - 1
 room_in rows = omega arith
@@ -287,7 +260,7 @@ base_in (suc lv) rows l a b = let e : suc lv - 1 ≡ lv = omega arith in rw e (l
     less lv rows a b = omega arith
 
 -- the tree reader, its label read
-module _ (s list : List ℕ) (at lv rows e w : ℕ) (L : LabelRead s at lv rows e w) (v₀ : ℕ) (Q : v₀ ≡ label_number list (part at e s)) (post lab : List ℕ) where
+module _ (s list : List ℕ) (at lv rows e w : ℕ) (L : LabelRead s at lv rows e w) (v₀ : ℕ) (Q : v₀ ≡ label_number list (take (e - at) (drop at s))) (post lab : List ℕ) where
   has_limits : Is (ltb 0 lv & ltb 0 (1024 - rows))
   has_limits = within_limits s list at lv rows post post lab lab L.deep L.room e L.label-end (omega (arith, L.some)) (omega (arith, L.gap, L.in_text))
 
@@ -304,7 +277,7 @@ module _ (s list : List ℕ) (at lv rows e w : ℕ) (L : LabelRead s at lv rows 
   number_is : v₀ ≡ label_number list (letters 64 (drop at s))
   number_is = Q ∙ ap (label_number list) (label-part s at e (letters-count s at e (omega (arith, L.some)) (omega (arith, L.gap, L.in_text)) L.label-end))
 
-  pub tree_leaf : (r : SentenceAnswer) (post' : List ℕ) → (get_or s w 0 ≡ 40 → ⊥) → MeetsLeaf s w lv rows r post post' → MeetsTree s list at lv rows r post post' lab (set lab rows v₀)
+  pub tree_leaf : (r : Answer) (post' : List ℕ) → (get_or s w 0 ≡ 40 → ⊥) → MeetsLeaf s w lv rows r post post' → MeetsTree s list at lv rows r post post' lab (set lab rows v₀)
   unfolding Meets read_tree
   tree_leaf r post' h M zero = tt
   tree_leaf r post' h M (suc f) =
@@ -314,7 +287,7 @@ module _ (s list : List ℕ) (at lv rows e w : ℕ) (L : LabelRead s at lv rows 
       (M list (letters 64 (drop at s)) (blanks (past 64 (drop at s))) lab))
 
   -- and its body
-  module _ (h : get_or s w 0 ≡ 40) (k₀ : lv ≤ 64) (k : 64 ≤ lv + rows) (post₁ lab₁ : List ℕ) (r : SentenceAnswer) (B : MeetsBody s list w (lv - 1) (rows + 1) r post post₁ (set lab rows v₀) lab₁) where
+  module _ (h : get_or s w 0 ≡ 40) (k₀ : lv ≤ 64) (k : 64 ≤ lv + rows) (post₁ lab₁ : List ℕ) (r : Answer) (B : MeetsBody s list w (lv - 1) (rows + 1) r post post₁ (set lab rows v₀) lab₁) where
     body_as : (f : ℕ) → Meets (postss (rows - (64 - lv))) (labelss (label_number list)) s (rows + 1) (read_trees f (drop 1 (skip (past 64 (drop at s)))) (lv - 1) (1024 - rows - 1)) r post post₁ (set lab rows v₀) lab₁
     body_as f =
         let p : rows + 1 - (64 - (lv - 1)) ≡ rows - (64 - lv) = base_in lv rows L.deep k₀ k in
@@ -329,25 +302,25 @@ module _ (s list : List ℕ) (at lv rows e w : ℕ) (L : LabelRead s at lv rows 
         ≡ then (read_trees f (drop 1 (skip (past 64 (drop at s)))) (lv - 1) (1024 - rows - 1)) (λ ts. closing (node (letters 64 (drop at s)) (blanks (past 64 (drop at s))) ts))
     read_in f = tree_trees (drop at s) lv (1024 - rows) f has_limits has-label has-gap (ap (heads 40) (sym body_here) ∙ heads_yes s w 40 h)
 
-    pub tree_refused : (why : Refusal) → r ≡ Refused why → (post' lab' : List ℕ) → MeetsTree s list at lv rows (Refused why) post post' lab lab'
+    pub tree_refused : (why : Refusal) → r ≡ Err why → (post' lab' : List ℕ) → MeetsTree s list at lv rows (Err why) post post' lab lab'
     unfolding Meets read_tree
     tree_refused why d post' lab' zero = tt
     tree_refused why d post' lab' (suc f) = rw (read_in f) (shut_refused s list rows _ _ _ _ r post post₁ _ lab₁ (body_as f) why d post' lab lab')
 
-    module _ (next after : ℕ) (d : r ≡ Read after next) where
-      tree_open : (get_or s next 0 ≡ 41 → ⊥) → (post' lab' : List ℕ) → MeetsTree s list at lv rows (Refused (Brackets next)) post post' lab lab'
+    module _ (next after : ℕ) (d : r ≡ read after next) where
+      tree_open : (get_or s next 0 ≡ 41 → ⊥) → (post' lab' : List ℕ) → MeetsTree s list at lv rows (Err (Brackets next)) post post' lab lab'
       unfolding Meets read_tree
       tree_open q post' lab' zero = tt
       tree_open q post' lab' (suc f) = rw (read_in f) (shut_no s list rows _ _ _ _ r post post₁ _ lab₁ (body_as f) next after d q post' lab lab')
 
-      tree_done : get_or s next 0 ≡ 41 → rows + 1 ≤ after → MeetsTree s list at lv rows (Read after (next + 1)) post (set post₁ rows (after - 1 - (64 - lv))) lab lab₁
+      tree_done : get_or s next 0 ≡ 41 → rows + 1 ≤ after → MeetsTree s list at lv rows (read after (next + 1)) post (set post₁ rows (after - 1 - (64 - lv))) lab lab₁
       unfolding Meets read_tree
       tree_done q c zero = tt
       tree_done q c (suc f) =
           rw (read_in f)
           (shut_yes s list rows (rows - (64 - lv)) (letters 64 (drop at s)) _ _ r post post₁ _ lab₁ (body_as f) next after (after - 1 - (64 - lv)) d q (inside-at s next 40 q) lab (ap (set lab rows) number_is) (omega arith))
 
-      pub tree_closed : (r' : SentenceAnswer) (post' : List ℕ) → rows + 1 ≤ after → Closed s next after lv rows r' post₁ post' → MeetsTree s list at lv rows r' post post' lab lab₁
+      pub tree_closed : (r' : Answer) (post' : List ℕ) → rows + 1 ≤ after → Closed s next after lv rows r' post₁ post' → MeetsTree s list at lv rows r' post post' lab lab₁
       tree_closed r' post' c C = go (ℕ_discrete (get_or s next 0) 41)
         where
           go : Dec (get_or s next 0 ≡ 41) → MeetsTree s list at lv rows r' post post' lab lab₁
@@ -356,7 +329,7 @@ module _ (s list : List ℕ) (at lv rows e w : ℕ) (L : LabelRead s at lv rows 
 
 -- ---- the leaf reader
 module _ (s : List ℕ) (at lv row : ℕ) (post post' : List ℕ) (e : ℕ) (L : Letters s at e) where
-  pub leaf_none : e ≡ at → MeetsLeaf s at lv row (Refused (Brackets at)) post post'
+  pub leaf_none : e ≡ at → MeetsLeaf s at lv row (Err (Brackets at)) post post'
   unfolding worded pick
   leaf_none q list l b lab =
       meets_wrong (posts (row - (64 - lv))) (labels (label_number list)) s row post post' lab _ _ at (omega (arith, L.in_text))
@@ -368,18 +341,18 @@ module _ (s : List ℕ) (at lv row : ℕ) (post post' : List ℕ) (e : ℕ) (L :
   worded-at e₁ y E i j Y l b =
       rw (empty-no (letters 64 (drop at s)) (omega (arith, letters-count s at e₁ (omega arith) j E))) (ap (closing (leaf l b (letters 64 (drop at s)) (blanks (past 64 (drop at s))))) (ap skip (sym E) ∙ sym Y))
 
-  leaf_open : (e₁ y : ℕ) → drop e₁ s ≡ past 64 (drop at s) → at < e₁ → e₁ ≤ length s → drop y s ≡ skip (drop e₁ s) → y ≤ length s → (get_or s y 0 ≡ 41 → ⊥) → MeetsLeaf s at lv row (Refused (Brackets y)) post post'
+  leaf_open : (e₁ y : ℕ) → drop e₁ s ≡ past 64 (drop at s) → at < e₁ → e₁ ≤ length s → drop y s ≡ skip (drop e₁ s) → y ≤ length s → (get_or s y 0 ≡ 41 → ⊥) → MeetsLeaf s at lv row (Err (Brackets y)) post post'
   unfolding closing pick
   leaf_open e₁ y E i j Y k q list l b lab =
       meets_wrong (posts (row - (64 - lv))) (labels (label_number list)) s row post post' lab _ _ y k (worded-at e₁ y E i j Y l b ∙ rw (heads-no s y 41 q))
 
-  pub leaf_long : 64 < e - at → MeetsLeaf s at lv row (Refused (Brackets (at + 64))) post post'
+  pub leaf_long : 64 < e - at → MeetsLeaf s at lv row (Err (Brackets (at + 64))) post post'
   leaf_long q =
       let z = letters_long s at e L q in
       let k : at + 64 ≤ length s = omega (arith, L.in_text) in
       leaf_open (at + 64) (at + 64) z.0 (omega arith) k (sym (skip_here s (at + 64) (inner_not_white _ z.1))) k (inner_not_41 _ z.1)
 
-  leaf_shut : (y : ℕ) → e - at ≤ 64 → at < e → drop y s ≡ skip (drop e s) → get_or s y 0 ≡ 41 → row < 1024 → post' ≡ set post row (row + 1 - 1 - (64 - lv)) → MeetsLeaf s at lv row (Read (row + 1) (y + 1)) post post'
+  leaf_shut : (y : ℕ) → e - at ≤ 64 → at < e → drop y s ≡ skip (drop e s) → get_or s y 0 ≡ 41 → row < 1024 → post' ≡ set post row (row + 1 - 1 - (64 - lv)) → MeetsLeaf s at lv row (read (row + 1) (y + 1)) post post'
   unfolding closing pick Meets posts labels
   leaf_shut y f i Y q m P list l b lab =
       let v : row + 1 - 1 - (64 - lv) ≡ row - (64 - lv) = omega arith in
@@ -395,7 +368,7 @@ module _ (s : List ℕ) (at lv row : ℕ) (post post' : List ℕ) (e : ℕ) (L :
         same = refl;
       })
 
-  pub leaf_closed : (e ≡ at → ⊥) → e - at ≤ 64 → row < 1024 → (y : ℕ) → drop y s ≡ skip (drop e s) → y ≤ length s → (r : SentenceAnswer) → Closed s y (row + 1) lv row r post post' → MeetsLeaf s at lv row r post post'
+  pub leaf_closed : (e ≡ at → ⊥) → e - at ≤ 64 → row < 1024 → (y : ℕ) → drop y s ≡ skip (drop e s) → y ≤ length s → (r : Answer) → Closed s y (row + 1) lv row r post post' → MeetsLeaf s at lv row r post post'
   leaf_closed n f m y Y k r C = go (ℕ_discrete (get_or s y 0) 41)
     where
       i : at < e
@@ -406,7 +379,7 @@ module _ (s : List ℕ) (at lv row : ℕ) (post post' : List ℕ) (e : ℕ) (L :
       go (no q) = rw (C.not_shut q) (leaf_open e y (letters-short s at e L f) i L.in_text Y k q)
 
 -- ---- what an answer tells
-pub tree_known : (s list : List ℕ) (at lv rows : ℕ) (post post' lab lab' : List ℕ) (r : SentenceAnswer) → at ≤ length s → MeetsTree s list at lv rows r post post' lab lab' → (next after : ℕ) → r ≡ Read after next
+pub tree_known : (s list : List ℕ) (at lv rows : ℕ) (post post' lab lab' : List ℕ) (r : Answer) → at ≤ length s → MeetsTree s list at lv rows r post post' lab lab' → (next after : ℕ) → r ≡ read after next
     → (at < next) × (next ≤ length s) × (rows ≤ after) × (after ≤ 1024)
 unfolding Meets RightTree
 tree_known s list at lv rows post post' lab lab' r a M next after d =
@@ -415,19 +388,19 @@ tree_known s list at lv rows post post' lab lab' r a M next after d =
     go : (g : Got Tree) → RightTree (2 * length s + 1) (drop at s) lv (1024 - rows) g → Meets (posts (rows - (64 - lv))) (labels (label_number list)) s rows g r post post' lab lab'
         → (at < next) × (next ≤ length s) × (rows ≤ after) × (after ≤ 1024)
     go (got t rest) R N =
-        let e : N.next ≡ next = read-end _ _ _ _ (sym N.is ∙ d) in
-        let c : rows + length (posts (rows - (64 - lv)) t) ≡ after = read_rows _ _ _ _ (sym N.is ∙ d) in
+        let e : N.next ≡ next = read-end _ _ (sym N.is ∙ d) in
+        let c : rows + length (posts (rows - (64 - lv)) t) ≡ after = read_rows _ _ (sym N.is ∙ d) in
         let p = write_long t rest in
         let q = ap length R.text in
         let u = ap length N.rest_is in
         let v = length-drop N.next s in
         let w = length-drop at s in
         (omega (arith, N.in_text), omega (arith, N.in_text), omega arith, omega (arith, N.few))
-    go (wrong rest) R N = absurd (read-refused _ _ _ (sym d ∙ N))
-    go (over rest) R N = absurd (read-refused _ _ _ (sym d ∙ N))
+    go (wrong rest) R N = absurd (read-refused _ _ (sym d ∙ N))
+    go (over rest) R N = absurd (read-refused _ _ (sym d ∙ N))
     go lost R N = absurd (omega (arith, R, length-drop at s))
 
-pub body_known : (s list : List ℕ) (at lv rows : ℕ) (post post' lab lab' : List ℕ) (r : SentenceAnswer) → MeetsBody s list at lv rows r post post' lab lab' → (next after : ℕ) → r ≡ Read after next
+pub body_known : (s list : List ℕ) (at lv rows : ℕ) (post post' lab lab' : List ℕ) (r : Answer) → MeetsBody s list at lv rows r post post' lab lab' → (next after : ℕ) → r ≡ read after next
     → (next ≤ length s) × (rows ≤ after) × (after ≤ 1024)
 unfolding Meets RightTrees
 body_known s list at lv rows post post' lab lab' r M next after d =
@@ -436,15 +409,15 @@ body_known s list at lv rows post post' lab lab' r M next after d =
     go : (g : Got Trees) → RightTrees (2 * length s + 2) (drop (at + 1) s) lv (1024 - rows) g → Meets (postss (rows - (64 - lv))) (labelss (label_number list)) s rows g r post post' lab lab'
         → (next ≤ length s) × (rows ≤ after) × (after ≤ 1024)
     go (got ts rest) R N =
-        let e : N.next ≡ next = read-end _ _ _ _ (sym N.is ∙ d) in
-        let c : rows + length (postss (rows - (64 - lv)) ts) ≡ after = read_rows _ _ _ _ (sym N.is ∙ d) in
+        let e : N.next ≡ next = read-end _ _ (sym N.is ∙ d) in
+        let c : rows + length (postss (rows - (64 - lv)) ts) ≡ after = read_rows _ _ (sym N.is ∙ d) in
         (omega (arith, N.in_text), omega arith, omega (arith, N.few))
-    go (wrong rest) R N = absurd (read-refused _ _ _ (sym d ∙ N))
-    go (over rest) R N = absurd (read-refused _ _ _ (sym d ∙ N))
+    go (wrong rest) R N = absurd (read-refused _ _ (sym d ∙ N))
+    go (over rest) R N = absurd (read-refused _ _ (sym d ∙ N))
     go lost R N = absurd (omega (arith, R, length-drop (at + 1) s))
 
 -- ---- the body reader
-module _ (s list : List ℕ) (at lv rows : ℕ) (post post₁ lab lab₁ : List ℕ) (r : SentenceAnswer) (T : MeetsTree s list (at + 1) lv rows r post post₁ lab lab₁) where
+module _ (s list : List ℕ) (at lv rows : ℕ) (post post₁ lab lab₁ : List ℕ) (r : Answer) (T : MeetsTree s list (at + 1) lv rows r post post₁ lab lab₁) where
   abbrev after_first : ℕ → Tree → List ℕ → Got Trees
   after_first f t z = followed t z (read_trees f (drop 1 (skip z)) lv (1024 - rows - size t))
 
@@ -452,44 +425,44 @@ module _ (s list : List ℕ) (at lv rows : ℕ) (post post₁ lab lab₁ : List 
   unfolding read_trees
   trees_in f = refl
 
-  pub body_refused : (why : Refusal) → r ≡ Refused why → (post' lab' : List ℕ) → MeetsBody s list at lv rows (Refused why) post post' lab lab'
+  pub body_refused : (why : Refusal) → r ≡ Err why → (post' lab' : List ℕ) → MeetsBody s list at lv rows (Err why) post post' lab lab'
   unfolding Meets then read_trees
   body_refused why d post' lab' zero = tt
   body_refused why d post' lab' (suc f) = rw (trees_in f) (go (read_tree f (drop (at + 1) s) lv (1024 - rows)) (T f))
     where
       go : (g : Got Tree) → Meets (posts (rows - (64 - lv))) (labels (label_number list)) s rows g r post post₁ lab lab₁
-          → Meets (postss (rows - (64 - lv))) (labelss (label_number list)) s rows (then g (after_first f)) (Refused why) post post' lab lab'
-      go (got t rest) M = absurd (read-refused _ _ _ (sym M.is ∙ d))
+          → Meets (postss (rows - (64 - lv))) (labelss (label_number list)) s rows (then g (after_first f)) (Err why) post post' lab lab'
+      go (got t rest) M = absurd (read-refused _ _ (sym M.is ∙ d))
       go (wrong rest) M = sym d ∙ M
       go (over rest) M = sym d ∙ M
       go lost M = tt
 
-  module _ (next after : ℕ) (d : r ≡ Read after next) (y : ℕ) (Y : drop y s ≡ skip (drop next s)) (z : y ≤ length s) where
-    pub body_last : (get_or s y 0 ≡ 40 → ⊥) → MeetsBody s list at lv rows (Read after y) post post₁ lab lab₁
+  module _ (next after : ℕ) (d : r ≡ read after next) (y : ℕ) (Y : drop y s ≡ skip (drop next s)) (z : y ≤ length s) where
+    pub body_last : (get_or s y 0 ≡ 40 → ⊥) → MeetsBody s list at lv rows (read after y) post post₁ lab lab₁
     unfolding Meets then followed pick read_trees posts labels
     body_last q zero = tt
     body_last q (suc f) = rw (trees_in f) (go (read_tree f (drop (at + 1) s) lv (1024 - rows)) (T f))
       where
         go : (g : Got Tree) → Meets (posts (rows - (64 - lv))) (labels (label_number list)) s rows g r post post₁ lab lab₁
-            → Meets (postss (rows - (64 - lv))) (labelss (label_number list)) s rows (then g (after_first f)) (Read after y) post post₁ lab lab₁
+            → Meets (postss (rows - (64 - lv))) (labelss (label_number list)) s rows (then g (after_first f)) (read after y) post post₁ lab lab₁
         go (got t rest) M =
-            let e : M.next ≡ next = read-end _ _ _ _ (sym M.is ∙ d) in
-            let c : rows + length (posts (rows - (64 - lv)) t) ≡ after = read_rows _ _ _ _ (sym M.is ∙ d) in
+            let e : M.next ≡ next = read-end _ _ (sym M.is ∙ d) in
+            let c : rows + length (posts (rows - (64 - lv)) t) ≡ after = read_rows _ _ (sym M.is ∙ d) in
             let R : skip rest ≡ drop y s = ap skip (M.rest_is ∙ ap (λ (k : ℕ). drop k s) e) ∙ sym Y in
             rw (ap (heads 40) R ∙ heads-no s y 40 q)
-            (record { next = y; is = ap (λ (k : ℕ). Read k y) (sym c); rest_is = R; in_text = z; few = M.few; posts_are = M.posts_are; labels_are = M.labels_are; same = M.same })
-        go (wrong rest) M = absurd (read-refused _ _ _ (sym d ∙ M))
-        go (over rest) M = absurd (read-refused _ _ _ (sym d ∙ M))
+            (record { next = y; is = ap (λ (k : ℕ). read k y) (sym c); rest_is = R; in_text = z; few = M.few; posts_are = M.posts_are; labels_are = M.labels_are; same = M.same })
+        go (wrong rest) M = absurd (read-refused _ _ (sym d ∙ M))
+        go (over rest) M = absurd (read-refused _ _ (sym d ∙ M))
         go lost M = tt
 
     -- and another body behind it
-    module _ (q : get_or s y 0 ≡ 40) (r₂ : SentenceAnswer) (post₂ lab₂ : List ℕ) (B : MeetsBody s list y lv after r₂ post₁ post₂ lab₁ lab₂) (u : 64 ≤ lv + rows) where
+    module _ (q : get_or s y 0 ≡ 40) (r₂ : Answer) (post₂ lab₂ : List ℕ) (B : MeetsBody s list y lv after r₂ post₁ post₂ lab₁ lab₂) (u : 64 ≤ lv + rows) where
       module _ (t : Tree) (rest : List ℕ) (M : Read-as s rows rest (posts (rows - (64 - lv)) t) (labels (label_number list) t) r post post₁ lab lab₁) where
         after_is : rows + size t ≡ after
-        after_is = ap (λ (k : ℕ). rows + k) (sym (posts_length t (rows - (64 - lv)))) ∙ read_rows _ _ _ _ (sym M.is ∙ d)
+        after_is = ap (λ (k : ℕ). rows + k) (sym (posts_length t (rows - (64 - lv)))) ∙ read_rows _ _ (sym M.is ∙ d)
 
         rest_here : skip rest ≡ drop y s
-        rest_here = ap skip (M.rest_is ∙ ap (λ (k : ℕ). drop k s) (read-end _ _ _ _ (sym M.is ∙ d))) ∙ sym Y
+        rest_here = ap skip (M.rest_is ∙ ap (λ (k : ℕ). drop k s) (read-end _ _ (sym M.is ∙ d))) ∙ sym Y
 
         rest_as : (f : ℕ) → Meets (postss (rows - (64 - lv) + size t)) (labelss (label_number list)) s after (read_trees f (drop 1 (skip rest)) lv (1024 - rows - size t)) r₂ post₁ post₂ lab₁ lab₂
         rest_as f =
@@ -517,7 +490,7 @@ module _ (s list : List ℕ) (at lv rows : ℕ) (post post₁ lab lab₁ : List 
             let m' : rows + length l₁ ≡ after = omega (arith, M.same) in
             record {
               next = N.next;
-              is = N.is ∙ ap (λ (k : ℕ). Read k N.next) (omega arith);
+              is = N.is ∙ ap (λ (k : ℕ). read k N.next) (omega arith);
               rest_is = N.rest_is;
               in_text = N.in_text;
               few = omega (arith, N.few);
@@ -546,6 +519,6 @@ module _ (s list : List ℕ) (at lv rows : ℕ) (post post₁ lab lab₁ : List 
           go : (g : Got Tree) → Meets (posts (rows - (64 - lv))) (labels (label_number list)) s rows g r post post₁ lab lab₁
               → Meets (postss (rows - (64 - lv))) (labelss (label_number list)) s rows (then g (after_first f)) r₂ post post₂ lab lab₂
           go (got t rest) M = joined t rest M _ (rest_as t rest M f)
-          go (wrong rest) M = absurd (read-refused _ _ _ (sym d ∙ M))
-          go (over rest) M = absurd (read-refused _ _ _ (sym d ∙ M))
+          go (wrong rest) M = absurd (read-refused _ _ (sym d ∙ M))
+          go (over rest) M = absurd (read-refused _ _ (sym d ∙ M))
           go lost M = tt

@@ -1,52 +1,16 @@
 -- The functions on bytes and on white space, step by step. Assumes nothing.
-use mathlib.Core.Path.{◌≡◌, refl, sym, ap, ◌∙◌}
-use mathlib.Core.Bool.{Bool, true, false, not, false≢true}
-use mathlib.Core.List.{List}
-use Prim.Native.Nat.{ℕ, zero, suc, ◌+◌, ◌-◌, ◌≤◌, ◌<◌}
-use native.Mathlib.Numerals.{add-one}
-use native.Mathlib.Decide.{dec_lt, ℕ_discrete}
-use native.Mathlib.Omega.{arith}
-use lib.ListN.{length, get_or, drop, drop_of_length-le, get_or-eq_default}
+use Rattle.std.proofs.Common.{◌≡◌, refl, sym, ap, ◌∙◌, false, List, ℕ, zero, suc, ◌+◌, ◌-◌, ◌≤◌, ◌<◌, add-one, arith, length, get_or, drop, drop_of_length-le, drop-cons, le-ltb, ne_eqb}
+use mathlib.Core.Bool.{false≢true}
+use native.Mathlib.Decide.{dec_lt}
+use lib.ListN.{get_or-eq_default}
 use Rattle.brackets.specs.Texts.{inside}
-use lib.Seq.{drop-cons}
-use lib.Dec.{eqb, ltb}
-use borrow.Author.Tests.{lt-ltb, le-ltb, ne_eqb}
 use Rattle.meaning.specs.Tests.{Is, ◌&◌, ◌or◌, non}
 use Rattle.meaning.specs.Names.{pick}
 use Rattle.meaning.specs.Sentences.{white, inner}
 use Rattle.brackets.specs.Reader.{skip, past}
 use Rattle.brackets.specs.Meets.{Letters}
 
--- ---- a test that is turned round
-pub not_taken : (b : Bool) → not b ≡ true → b ≡ false
-not_taken true e = absurd (false≢true e)
-not_taken false e = refl
-
-pub not_left : (b : Bool) → not b ≡ false → b ≡ true
-not_left true e = refl
-not_left false e = absurd (false≢true (sym e))
-
 -- ---- bytes
-pub white_yes : (b : ℕ) → Is (eqb b 32 or eqb b 9 or eqb b 10 or eqb b 13) → true ≡ white b
-unfolding white
-white_yes b h = sym h
-
-pub white_32 : (b : ℕ) → b ≡ 32 → true ≡ white b
-unfolding white ◌or◌
-white_32 b e = rw e
-
-pub white_9 : (b : ℕ) → b ≡ 9 → true ≡ white b
-unfolding white ◌or◌
-white_9 b e = rw e
-
-pub white_10 : (b : ℕ) → b ≡ 10 → true ≡ white b
-unfolding white ◌or◌
-white_10 b e = rw e
-
-pub white_13 : (b : ℕ) → b ≡ 13 → true ≡ white b
-unfolding white ◌or◌
-white_13 b e = rw e
-
 pub white-no : (b : ℕ) → (b ≡ 32 → ⊥) → (b ≡ 9 → ⊥) → (b ≡ 10 → ⊥) → (b ≡ 13 → ⊥) → false ≡ white b
 unfolding white ◌or◌
 white-no b h i j k = rw (ne_eqb b 32 h, ne_eqb b 9 i, ne_eqb b 10 j, ne_eqb b 13 k)
@@ -55,31 +19,9 @@ pub inner_low : (b : ℕ) → b ≤ 32 → false ≡ inner b
 unfolding inner ◌&◌
 inner_low b h = rw (le-ltb 32 b h)
 
-inner-no : (b : ℕ) → b ≡ 40 → false ≡ inner b
-unfolding inner ◌&◌ non
-inner-no b e = rw e
-
 inner-no_41 : (b : ℕ) → b ≡ 41 → false ≡ inner b
 unfolding inner ◌&◌ non
 inner-no_41 b e = rw e
-
-inner_yes : (b : ℕ) → 32 < b → (b ≡ 40 → ⊥) → (b ≡ 41 → ⊥) → true ≡ inner b
-unfolding inner ◌&◌ non
-inner_yes b h i j = rw (lt-ltb 32 b h, ne_eqb b 40 i, ne_eqb b 41 j)
-
-pub inner_high : (b : ℕ) → 41 < b → true ≡ inner b
-inner_high b h = inner_yes b (omega arith) (λ e. omega arith) (λ e. omega arith)
-
-pub inner-between : (b : ℕ) → 32 < b → b ≤ 41 → ltb b 40 ≡ inner b
-inner-between b h k = go (dec_lt b 40)
-  where
-    go : Dec (b < 40) → ltb b 40 ≡ inner b
-    go (yes l) = lt-ltb b 40 l ∙ inner_yes b h (λ e. omega arith) (λ e. omega arith)
-    go (no l) = le-ltb b 40 (omega (arith, l)) ∙ last (ℕ_discrete b 40)
-      where
-        last : Dec (b ≡ 40) → false ≡ inner b
-        last (yes e) = inner-no b e
-        last (no n) = inner-no_41 b (omega (arith, n, l))
 
 -- ---- scanning
 pub white-inside : (s : List ℕ) (i : ℕ) → Is (white (get_or s i 0)) → i < length s
@@ -101,6 +43,10 @@ skip_here s i h = go (dec_lt i (length s))
     go : Dec (i < length s) → skip (drop i s) ≡ drop i s
     go (yes k) = rw (drop-cons s i 0 k, h)
     go (no k) = rw (drop_of_length-le s {i = i} (omega arith))
+
+pub skip_end : (s : List ℕ) (i : ℕ) → length s ≤ i → skip (drop i s) ≡ drop i s
+unfolding skip
+skip_end s i h = rw (drop_of_length-le s {i = i} h)
 
 pub past-on : (s : List ℕ) (i n : ℕ) → Is (inner (get_or s i 0)) → past n (drop (i + 1) s) ≡ past (suc n) (drop i s)
 unfolding past pick
@@ -129,13 +75,6 @@ pub inner_not_41 : (b : ℕ) → Is (inner b) → b ≡ 41 → ⊥
 inner_not_41 b h e = false≢true (inner-no_41 b e ∙ h)
 
 -- ---- letters
-pub letters-more : (s : List ℕ) (at i : ℕ) → ((k : ℕ) → at ≤ k → k < i → Is (inner (get_or s k 0))) → Is (inner (get_or s i 0)) → (k : ℕ) → at ≤ k → k < i + 1 → Is (inner (get_or s k 0))
-letters-more s at i h q k a b = go (dec_lt k i)
-  where
-    go : Dec (k < i) → Is (inner (get_or s k 0))
-    go (yes l) = h k a l
-    go (no l) = ap (λ (j : ℕ). inner (get_or s j 0)) (let e : k ≡ i = omega (arith, l) in e) ∙ q
-
 -- past n letters
 past_all : (s : List ℕ) (at n : ℕ) → ((k : ℕ) → at ≤ k → k < at + n → Is (inner (get_or s k 0))) → past n (drop at s) ≡ drop (at + n) s
 unfolding past

@@ -6,8 +6,8 @@ use Rattle.meaning.specs.Tests.{◌&◌, ◌or◌, non}
 use Rattle.meaning.specs.Axes.{bytes}
 use Rattle.meaning.specs.Names.{pick, onto, names_of, too_many, name_of, same, place_from, label_number}
 use Rattle.meaning.specs.Sentences.{all, white, inner, token, size, posts, labels, tree_of, wrong_at, large_at, sentence_says, sentence_answer, posts_of, labels_of, sentence_leaves, SentenceRead}
-use Rattle.meaning.specs.declared.SentenceAnswer.TheVariants.{Read}
 use Rattle.brackets.specs.Reader.{then, skip, letters, past, blanks, empty, heads, closing, worded, bodied, labelled, limited, followed, read_tree, paired, reading, placed, reading_of}
+use Rattle.brackets.specs.Numbers.{read}
 use Rattle.brackets.specs.Whole.{reading_right}
 
 -- every definition that a reading computes by
@@ -29,7 +29,7 @@ labels_D = 65535 ∷ 0 ∷ 65535 ∷ 1 ∷ 65535 ∷ 65535 ∷ 65535 ∷ 65535 �
 
 -- read into any two columns that are long enough: ten rows, up to the end of the text
 pub table_D : (post label : List ℕ) → 10 ≤ length post → 10 ≤ length label
-    → SentenceRead sentence_D names_D post label (Read 10 71) (posts_D ++ drop 10 post) (labels_D ++ drop 10 label)
+    → SentenceRead sentence_D names_D post label (read 10 71) (posts_D ++ drop 10 post) (labels_D ++ drop 10 label)
 unfolding computing sentence_D names_D posts_D labels_D
 table_D post label h k =
     record {

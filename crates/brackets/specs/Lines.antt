@@ -1,5 +1,5 @@
 -- Parts of texts and lines of a list, as the functions on names see them. Assumes nothing: these are definitions.
-use Rattle.std.specs.Prelude.{◌≡◌, Bool, false, List, [], ◌∷◌, ℕ, ◌+◌, ◌-◌, ◌≤◌, ◌<◌, eqb, length, get_or, take, drop}
+use Rattle.std.specs.Prelude.{◌≡◌, Bool, false, List, [], ◌∷◌, ℕ, ◌+◌, ◌-◌, ◌<◌, eqb, length, get_or, take, drop}
 use Rattle.meaning.specs.Names.{pick, names_of}
 
 -- the bytes from a up to b
@@ -20,11 +20,6 @@ MarkedTo list a (e ∷ ends) i = (e ≡ a + length (ahead (drop a list))) × (e 
 unfoldable pub Marked : List ℕ → ℕ → List ℕ → Type 0
 Marked list a [] = names_of (drop a list) ≡ []
 Marked list a (e ∷ ends) = (e ≡ a + length (ahead (drop a list))) × (e < length list) × Marked list (e + 1) ends
-
--- n names, whose ends are noted; or more than 32
-pub record FoundEnds (list : List ℕ) (n : ℕ) (ends : List ℕ) : Type 0 where
-  pub few : n ≤ 32 → Marked list 0 (take n ends)
-  pub many : 32 < n → 32 < length (names_of list)
 
 -- no name begins with b
 unfoldable pub NoneBegins : ℕ → List (List ℕ) → Type 0

@@ -1,24 +1,33 @@
 -- What a reading answers, in document 01's numbers and places, and that these tell the answer. Assumes nothing.
-use Rattle.std.specs.Prelude.{◌≡◌, refl, false, List, [], ◌∷◌, ℕ, ◌-◌, leb, eqb, length, get_or}
-use Rattle.std.proofs.Common.{sym, ap, ◌∙◌, arith}
+use Rattle.std.specs.Prelude.{◌≡◌, refl, Result, Ok, Err, false, List, [], ◌∷◌, ℕ, ◌-◌, leb, eqb, length, get_or}
+use Rattle.std.proofs.Common.{sym, ap, ◌∙◌}
 use Rattle.meaning.specs.Tests.{Is, ◌&◌}
 use Rattle.meaning.specs.Names.{pick, too_many}
 use Rattle.meaning.specs.Sentences.{size, tree_of, Sentence, Reading, found, wrong_at, large_at, sentence_says, sentence_answer}
 use Rattle.meaning.specs.Told.{number, place, Told, refused, given, told_sentence}
 use Rattle.meaning.specs.declared.Refusal.{Refusal}
 use Rattle.meaning.specs.declared.Refusal.TheVariants.{Columns, PostNumbers, ThreeRows, Counts, Variables, Axes, EmptyHead, Tuple, ShortBuffer, QueryText, Brackets, TooLarge, HeadVariable}
-use Rattle.meaning.specs.declared.SentenceAnswer.{SentenceAnswer}
-use Rattle.meaning.specs.declared.SentenceAnswer.TheVariants.{Read, Refused}
+use Rattle.meaning.specs.declared.SentenceReading.{SentenceReading}
+
+-- what a reader answers: the rows, and the place behind them; or why it refuses
+abbrev pub Answer : Type 0
+Answer = Result SentenceReading Refusal
+
+abbrev pub read : ℕ → ℕ → Answer
+read rows end = Ok (record { rows = rows; end = end })
 
 -- an answer is one case only, with its values
-pub read-refused : (rows end : ℕ) (r : Refusal) → Read rows end ≡ Refused r → ⊥
-read-refused rows end r e = let z : ◌≡◌ {A = ℕ} 0 1 = cc in omega arith
+pub read-refused : (x : SentenceReading) (r : Refusal) → ◌≡◌ {A = Answer} (Ok x) (Err r) → ⊥
+read-refused x r e = cc
 
-pub read_rows : (a b c d : ℕ) → Read a b ≡ Read c d → a ≡ c
-read_rows a b c d e = cc
+pub read_one : (x y : SentenceReading) → ◌≡◌ {A = Answer} (Ok x) (Ok y) → x ≡ y
+read_one x y e = cc
 
-pub read-end : (a b c d : ℕ) → Read a b ≡ Read c d → b ≡ d
-read-end a b c d e = cc
+pub read_rows : (x y : SentenceReading) → ◌≡◌ {A = Answer} (Ok x) (Ok y) → x.rows ≡ y.rows
+read_rows x y e = ap (λ (z : SentenceReading). z.rows) (read_one x y e)
+
+pub read-end : (x y : SentenceReading) → ◌≡◌ {A = Answer} (Ok x) (Ok y) → x.end ≡ y.end
+read-end x y e = ap (λ (z : SentenceReading). z.end) (read_one x y e)
 
 -- a refusal's number and place
 unfoldable pub fault : ℕ → ℕ → Told
@@ -76,8 +85,8 @@ refusal_of_lem (Brackets p) = refl
 refusal_of_lem (TooLarge p) = refl
 refusal_of_lem HeadVariable = refl
 
-unfoldable pub answer_told : Told → SentenceAnswer
-answer_told t = pick (eqb t.number 0) (Read (get_or t.values 0 0) (get_or t.values 1 0)) (Refused (refusal_of t.number t.place))
+unfoldable pub answer_told : Told → Answer
+answer_told t = pick (eqb t.number 0) (read (get_or t.values 0 0) (get_or t.values 1 0)) (Err (refusal_of t.number t.place))
 
 pub not_0 : (r : Refusal) → eqb (number r) 0 ≡ false
 unfolding number
@@ -95,10 +104,10 @@ not_0 (Brackets p) = refl
 not_0 (TooLarge p) = refl
 not_0 HeadVariable = refl
 
-answer-told : (a : SentenceAnswer) → answer_told (told_sentence a) ≡ a
+answer-told : (a : Answer) → answer_told (told_sentence a) ≡ a
 unfolding answer_told pick told_sentence given refused
-answer-told (Read rows end) = refl
-answer-told (Refused r) = rw (not_0 r) (ap Refused (refusal_of_lem r))
+answer-told (Ok x) = refl
+answer-told (Err r) = rw (not_0 r) (ap (λ (q : Refusal). Err q) (refusal_of_lem r))
 
-pub one_told : (a b : SentenceAnswer) → told_sentence a ≡ told_sentence b → a ≡ b
+pub one_told : (a b : Answer) → told_sentence a ≡ told_sentence b → a ≡ b
 one_told a b e = sym (answer-told a) ∙ ap answer_told e ∙ answer-told b

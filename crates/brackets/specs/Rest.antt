@@ -1,14 +1,13 @@
 -- What an answer's end tells: the text is the sentence and then the rest, which is shorter. Assumes nothing.
-use Rattle.std.specs.Prelude.{◌≡◌, refl, Bool, true, false, List, [], ◌∷◌, ◌++◌, ℕ, zero, suc, ◌-◌, ◌≤◌, ◌<◌, leb, length, drop}
+use Rattle.std.specs.Prelude.{◌≡◌, refl, Err, Bool, true, false, List, [], ◌∷◌, ◌++◌, ℕ, zero, suc, ◌-◌, ◌≤◌, ◌<◌, leb, length, drop}
 use Rattle.std.proofs.Common.{sym, ap, ◌∙◌, arith, length-append}
 use Rattle.meaning.specs.Tests.{Is, ◌&◌}
 use Rattle.meaning.specs.Names.{pick, too_many}
 use Rattle.meaning.specs.Sentences.{write, size, tree_of, Sentence, plain, bare, spell, allowed, Reading, found, wrong_at, large_at, IsReading, sentence_says, sentence_answer, sentence_rest, SentenceRead}
 use Rattle.meaning.specs.declared.Refusal.TheVariants.{Counts, ShortBuffer}
-use Rattle.meaning.specs.declared.SentenceAnswer.TheVariants.{Read, Refused}
 use Rattle.brackets.specs.Right.{write_long}
 use Rattle.brackets.specs.Same.{spell-on}
-use Rattle.brackets.specs.Numbers.{read-refused, read_rows, read-end}
+use Rattle.brackets.specs.Numbers.{read, read-refused, read_rows, read-end}
 
 behind : (f r : List ℕ) (k : ℕ) → k ≡ length f → drop k (f ++ r) ≡ r
 behind [] r zero h = refl
@@ -30,9 +29,9 @@ pub record Behind (text : List ℕ) (rows end : ℕ) : Type 0 where
   pub sentence : Sentence
   pub is_allowed : Is (allowed sentence)
   pub rows_are : rows ≡ size (tree_of sentence)
-  pub text_is : text ≡ spell sentence (sentence_rest text (Read rows end))
+  pub text_is : text ≡ spell sentence (sentence_rest text (read rows end))
   pub in_text : end ≤ length text
-  pub shorter : length (sentence_rest text (Read rows end)) < length text
+  pub shorter : length (sentence_rest text (read rows end)) < length text
 
 found-behind : (text : List ℕ) (x : Sentence) (r : List ℕ) → Is (allowed x) → text ≡ spell x r → Behind text (size (tree_of x)) (length text - length r)
 unfolding sentence_rest
@@ -50,16 +49,16 @@ found-behind text x r h e =
       shorter = omega (arith, ap length d, spell_long x r, ap length e);
     }
 
-pub read_behind : (text list post label : List ℕ) (rows end : ℕ) (post' label' : List ℕ) → SentenceRead text list post label (Read rows end) post' label' → Behind text rows end
+pub read_behind : (text list post label : List ℕ) (rows end : ℕ) (post' label' : List ℕ) → SentenceRead text list post label (read rows end) post' label' → Behind text rows end
 unfolding sentence_answer sentence_says pick IsReading
 read_behind text list post label rows end post' label' R = go R.reading (too_many list) R.is_reading R.answered
   where
-    go : (o : Reading) (b : Bool) → IsReading text o → Read rows end ≡ pick b (Refused Counts) (sentence_says text o (length post) (length label)) → Behind text rows end
-    go o true I e = absurd (read-refused _ _ _ e)
-    go (wrong_at q) false I e = absurd (read-refused _ _ _ e)
-    go (large_at q) false I e = absurd (read-refused _ _ _ e)
+    go : (o : Reading) (b : Bool) → IsReading text o → read rows end ≡ pick b (Err Counts) (sentence_says text o (length post) (length label)) → Behind text rows end
+    go o true I e = absurd (read-refused _ _ e)
+    go (wrong_at q) false I e = absurd (read-refused _ _ e)
+    go (large_at q) false I e = absurd (read-refused _ _ e)
     go (found x r) false I e = fit (leb (size (tree_of x)) (length post) & leb (size (tree_of x)) (length label)) e
       where
-        fit : (c : Bool) → Read rows end ≡ pick c (Read (size (tree_of x)) (length text - length r)) (Refused ShortBuffer) → Behind text rows end
-        fit true e = rw (read_rows _ _ _ _ e, read-end _ _ _ _ e) (found-behind text x r I.is_allowed I.text)
-        fit false e = absurd (read-refused _ _ _ e)
+        fit : (c : Bool) → read rows end ≡ pick c (read (size (tree_of x)) (length text - length r)) (Err ShortBuffer) → Behind text rows end
+        fit true e = rw (read_rows _ _ e, read-end _ _ e) (found-behind text x r I.is_allowed I.text)
+        fit false e = absurd (read-refused _ _ e)

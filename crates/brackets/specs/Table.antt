@@ -1,5 +1,5 @@
 -- The post numbers that a tree yields always form a tree table. Assumes nothing.
-use Rattle.std.specs.Prelude.{◌≡◌, refl, List, [], ◌∷◌, ◌++◌, ℕ, zero, suc, ◌+◌, ◌-◌, ◌≤◌, ◌<◌, length, get_or, take, drop, ltb, leb, eqb, Bool, true, false}
+use Rattle.std.specs.Prelude.{◌≡◌, refl, Err, List, [], ◌∷◌, ◌++◌, ℕ, zero, suc, ◌+◌, ◌-◌, ◌≤◌, ◌<◌, length, get_or, take, drop, ltb, leb, eqb, Bool, true, false}
 use Rattle.std.proofs.Common.{sym, ap, ◌∙◌, subst, suc-add, zero-add, add-zero, arith, length-append, ltb-true, lt-ltb, leb-true, eq-eqb, ne_eqb}
 use Rattle.std.proofs.Math.Decide.{dec_lt}
 use Rattle.std.proofs.Math.ListN.{get_or-append}
@@ -9,8 +9,7 @@ use Rattle.meaning.specs.Table.{is_numbered, is_nested, is_tree, is_sized}
 use Rattle.meaning.specs.Names.{pick, too_many, label_number}
 use Rattle.meaning.specs.Sentences.{Tree, Trees, leaf, node, one, more, size, sizes, nests, posts, postss, labels, labelss, Sentence, tree_of, legal, allowed, Reading, found, wrong_at, large_at, IsReading, sentence_says, sentence_answer, posts_of, labels_of, sentence_leaves, SentenceRead}
 use Rattle.meaning.specs.declared.Refusal.TheVariants.{Counts, ShortBuffer}
-use Rattle.meaning.specs.declared.SentenceAnswer.TheVariants.{Read, Refused}
-use Rattle.brackets.specs.Numbers.{read-refused, read_rows}
+use Rattle.brackets.specs.Numbers.{read, read-refused, read_rows}
 use Rattle.brackets.specs.Both.{and_r, and_in}
 
 -- the numbers n to n + length l - 1, each once, and no three rows a < b < c with post c < post a < post b
@@ -198,17 +197,17 @@ columns list x h old old' =
       few = k;
     }
 
-pub read_table : (text list post label : List ℕ) (rows end : ℕ) (post' label' : List ℕ) → SentenceRead text list post label (Read rows end) post' label' → Tabled rows post' label'
+pub read_table : (text list post label : List ℕ) (rows end : ℕ) (post' label' : List ℕ) → SentenceRead text list post label (read rows end) post' label' → Tabled rows post' label'
 unfolding sentence_answer sentence_says pick IsReading posts_of labels_of sentence_leaves
 read_table text list post label rows end post' label' R = go R.reading (too_many list) R.is_reading R.answered R.posts_left R.labels-left
   where
-    go : (o : Reading) (b : Bool) → IsReading text o → Read rows end ≡ pick b (Refused Counts) (sentence_says text o (length post) (length label))
+    go : (o : Reading) (b : Bool) → IsReading text o → read rows end ≡ pick b (Err Counts) (sentence_says text o (length post) (length label))
         → post' ≡ posts_of o ++ drop rows post → label' ≡ labels_of list o ++ drop rows label → Tabled rows post' label'
-    go o true I e p l = absurd (read-refused _ _ _ e)
-    go (wrong_at q) false I e p l = absurd (read-refused _ _ _ e)
-    go (large_at q) false I e p l = absurd (read-refused _ _ _ e)
+    go o true I e p l = absurd (read-refused _ _ e)
+    go (wrong_at q) false I e p l = absurd (read-refused _ _ e)
+    go (large_at q) false I e p l = absurd (read-refused _ _ e)
     go (found x r) false I e p l = fit (leb (size (tree_of x)) (length post) & leb (size (tree_of x)) (length label)) e
       where
-        fit : (c : Bool) → Read rows end ≡ pick c (Read (size (tree_of x)) (length text - length r)) (Refused ShortBuffer) → Tabled rows post' label'
-        fit true e = rw (read_rows _ _ _ _ e, p, l) (columns list x I.is_allowed _ _)
-        fit false e = absurd (read-refused _ _ _ e)
+        fit : (c : Bool) → read rows end ≡ pick c (read (size (tree_of x)) (length text - length r)) (Err ShortBuffer) → Tabled rows post' label'
+        fit true e = rw (read_rows _ _ e, p, l) (columns list x I.is_allowed _ _)
+        fit false e = absurd (read-refused _ _ e)

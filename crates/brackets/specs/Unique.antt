@@ -5,8 +5,8 @@ use Rattle.std.proofs.Math.Decide.{dec_lt}
 use Rattle.brackets.specs.Texts.{inside-at, take_front, take-few}
 use Rattle.meaning.specs.Tests.{Is}
 use Rattle.meaning.specs.Sentences.{Sentence, spell, legal, allowed, Begins, Reading, found, wrong_at, large_at, IsSentence, Is11, Is12, IsReading, sentence_answer, posts_of, labels_of, sentence_leaves, SentenceRead}
-use Rattle.meaning.specs.declared.SentenceAnswer.{SentenceAnswer}
 use Rattle.brackets.specs.Both.{and_l}
+use Rattle.brackets.specs.Numbers.{Answer}
 use Rattle.brackets.specs.Reader.{reading_of}
 use Rattle.brackets.specs.Steps.{start, run, ended}
 use Rattle.brackets.specs.Machine.{sentence_run}
@@ -117,7 +117,7 @@ pub reading_is : (s : List ℕ) (o : Reading) → IsReading s o → reading_of s
 reading_is s o h = one-reading s (reading_of s) o (reading_right s) h
 
 -- ---- any two results that the reader's contract allows are equal
-module _ (text list post label : List ℕ) (a a' : SentenceAnswer) (p p' l l' : List ℕ) (R : SentenceRead text list post label a p l) (R' : SentenceRead text list post label a' p' l') where
+module _ (text list post label : List ℕ) (a a' : Answer) (p p' l l' : List ℕ) (R : SentenceRead text list post label a p l) (R' : SentenceRead text list post label a' p' l') where
   same-reading : R.reading ≡ R'.reading
   same-reading = one-reading text _ _ R.is_reading R'.is_reading
 
@@ -125,10 +125,10 @@ module _ (text list post label : List ℕ) (a a' : SentenceAnswer) (p p' l l' : 
   one_answer = R.answered ∙ ap (λ (o : Reading). sentence_answer text list o (length post) (length label)) same-reading ∙ sym R'.answered
 
   pub one_post : p ≡ p'
-  one_post = R.posts_left ∙ ap₂ (λ (b : SentenceAnswer) (o : Reading). sentence_leaves b (posts_of o) post) one_answer same-reading ∙ sym R'.posts_left
+  one_post = R.posts_left ∙ ap₂ (λ (b : Answer) (o : Reading). sentence_leaves b (posts_of o) post) one_answer same-reading ∙ sym R'.posts_left
 
   pub one_label : l ≡ l'
-  one_label = R.labels-left ∙ ap₂ (λ (b : SentenceAnswer) (o : Reading). sentence_leaves b (labels_of list o) label) one_answer same-reading ∙ sym R'.labels-left
+  one_label = R.labels-left ∙ ap₂ (λ (b : Answer) (o : Reading). sentence_leaves b (labels_of list o) label) one_answer same-reading ∙ sym R'.labels-left
 
 -- what the contract determines, computed: every reading has it
 pub computed : (text list post label : List ℕ)

@@ -8,38 +8,21 @@ ghost use Rattle.brackets.specs.Meets.{Letters};
 pub(crate) fn peek(text: &[u8], at: usize) -> u8
     ensures { result ≡ get_or text.now at 0 }
 {
-    if at < text.len() { text[at] } else { 0 }
+    text.get(at).copied().unwrap_or(0)
 }
 
+// Most bytes that are tried stand above the space: one comparison settles it.
 pub(crate) fn is_white(b: u8) -> bool
     ensures { result ≡ white b }
 {
-    if b == b' ' {
-        return true;
-    }
-    if b == b'\t' {
-        return true;
-    }
-    if b == b'\n' {
-        return true;
-    }
-    if b == b'\r' {
-        return true;
-    }
-    false
+    b <= b' ' && matches!(b, b' ' | b'\t' | b'\n' | b'\r')
 }
 
-// Nearly every letter stands behind the parentheses, which follow each other: one comparison settles it.
+// Nearly every letter stands behind the parentheses, which follow each other.
 pub(crate) fn is_inner(b: u8) -> bool
     ensures { result ≡ inner b }
 {
-    if b')' < b {
-        return true;
-    }
-    if b <= b' ' {
-        return false;
-    }
-    b < b'('
+    b')' < b || b' ' < b && b < b'('
 }
 
 // Where the white space at a place ends.
@@ -47,11 +30,12 @@ pub(crate) fn skip_white(text: &[u8], at: usize) -> usize
     requires { at ≤ length text.now }
     ensures { (drop result text.now ≡ skip (drop at text.now)) × (at ≤ result) × (result ≤ length text.now) }
 {
-    let mut i = at;
-    while is_white(peek(text, i)) {
-        i += 1;
+    for i in at..text.len() {
+        if !is_white(text[i]) {
+            return i;
+        }
     }
-    i
+    text.len()
 }
 
 // Where the letters at a place end. Who reads a label or word refuses more than 64: the loop has one bound.
@@ -59,12 +43,10 @@ pub(crate) fn letters_end(text: &[u8], at: usize) -> usize
     requires { at ≤ length text.now }
     ensures { Letters text.now at result }
 {
-    let mut i = at;
-    while i < text.len() {
+    for i in at..text.len() {
         if !is_inner(text[i]) {
             return i;
         }
-        i += 1;
     }
-    i
+    text.len()
 }

@@ -1,36 +1,60 @@
 // The tree reader and the body reader, which call each other, and the sentence around a tree.
 ghost use Rattle.std.specs.Prelude.{◌≡◌, ℕ, ◌+◌, ◌-◌, ◌≤◌, ◌<◌, length, get_or};
-ghost use Rattle.brackets.specs.Lines.{Marked, NotedBytes};
 ghost use Rattle.brackets.specs.Meets.{MeetsLabel, Closed, MeetsLeaf, MeetsTree, MeetsBody, MeetsWhole};
 
 use crate::bytes::{is_inner, is_white, letters_end, peek, skip_white};
-use crate::names::label_number;
-use meaning::{Refusal, SentenceAnswer};
+use crate::names::Names;
+use meaning::{Refusal, SentenceReading};
 
-// A row's label, from just behind its opening parenthesis, and the white space behind it, with `levels` left and `rows`
-// read: where each of the two ends.
-fn start(text: &[u8], at: usize, levels: usize, rows: usize) -> SentenceAnswer
+// What a sentence is read from: its text, and the list of names.
+#[derive(Clone, Copy)]
+pub(crate) struct Source<'a> {
+    pub(crate) text: &'a [u8],
+    pub(crate) names: &'a Names<'a>,
+}
+
+// What it is read into: a post number and a label number for each row.
+#[derive(Drop)]
+pub(crate) struct Columns<'a> {
+    pub(crate) post: &'a mut [u16; 1024],
+    pub(crate) label: &'a mut [u16; 1024],
+}
+
+// A row: its number, and the levels left for it. Its level, by which these are less than 64, is at most its number.
+#[derive(Clone, Copy)]
+struct Row {
+    number: usize,
+    levels: usize,
+    ghost level: { (levels ≤ 64) × (64 ≤ levels + number) },
+}
+
+// Where a row's label ends, and where the white space behind it ends.
+#[derive(Clone, Copy)]
+struct Label {
+    end: usize,
+    body: usize,
+}
+
+// A row's label, from just behind its opening parenthesis.
+fn row_label(text: &[u8], at: usize, row: Row) -> Result<Label, Refusal>
     requires { (1 ≤ at) × (at ≤ length text.now) }
-    ensures { MeetsLabel text.now at levels rows result }
+    ensures { MeetsLabel text.now at row.levels row.number result }
 {
-    if levels == 0 {
-        return SentenceAnswer::Refused(Refusal::TooLarge(at - 1));
+    if row.levels == 0 || 1024 <= row.number {
+        return Err(Refusal::TooLarge(at - 1));
     }
-    if 1024 <= rows {
-        return SentenceAnswer::Refused(Refusal::TooLarge(at - 1));
+    let end = letters_end(text, at);
+    if end == at {
+        return Err(Refusal::Brackets(at));
     }
-    let e = letters_end(text, at);
-    if e == at {
-        return SentenceAnswer::Refused(Refusal::Brackets(at));
+    if 64 < end - at {
+        return Err(Refusal::Brackets(at + 64));
     }
-    if 64 < e - at {
-        return SentenceAnswer::Refused(Refusal::Brackets(at + 64));
+    if !is_white(peek(text, end)) {
+        return Err(Refusal::Brackets(end));
     }
-    if !is_white(peek(text, e)) {
-        return SentenceAnswer::Refused(Refusal::Brackets(e));
-    }
-    let w = skip_white(text, e + 1);
-    SentenceAnswer::Read(e, w)
+    let body = skip_white(text, end + 1);
+    Ok(Label { end, body })
 }
 
 // The closing parenthesis of a row, with `rows` read. A row's post number is its row number, plus the rows below it,
@@ -39,189 +63,129 @@ fn close(
     text: &[u8],
     at: usize,
     rows: usize,
-    levels: usize,
-    row: usize,
+    row: Row,
     post: &mut [u16; 1024],
-) -> SentenceAnswer
-    requires { (row < rows) × (rows ≤ 1024) × (levels ≤ 64) × (64 ≤ levels + row) }
-    ensures { Closed text.now at rows levels row result post.old post.new }
+) -> Result<SentenceReading, Refusal>
+    requires { (row.number < rows) × (rows ≤ 1024) }
+    ensures { Closed text.now at rows row.levels row.number result post.old post.new }
 {
     if peek(text, at) != b')' {
-        return SentenceAnswer::Refused(Refusal::Brackets(at));
+        return Err(Refusal::Brackets(at));
     }
-    post[row] = (rows - 1 - (64 - levels)) as u16;
-    SentenceAnswer::Read(rows, at + 1)
+    post[row.number] = (rows - 1 - (64 - row.levels)) as u16;
+    Ok(SentenceReading { rows, end: at + 1 })
 }
 
 // A leaf's word, and the leaf's closing parenthesis.
-fn leaf(text: &[u8], at: usize, levels: usize, row: usize, post: &mut [u16; 1024]) -> SentenceAnswer
-    requires { (at ≤ length text.now) × (row < 1024) × (levels ≤ 64) × (64 ≤ levels + row) }
-    ensures { MeetsLeaf text.now at levels row result post.old post.new }
-{
-    let e = letters_end(text, at);
-    if e == at {
-        return SentenceAnswer::Refused(Refusal::Brackets(at));
-    }
-    if 64 < e - at {
-        return SentenceAnswer::Refused(Refusal::Brackets(at + 64));
-    }
-    let y = skip_white(text, e);
-    close(text, y, row + 1, levels, row, post)
-}
-
-// A tree below another, from just behind its opening parenthesis, with `levels` left and `rows` read.
-#[cycle(body_tree)]
-fn tree(
+fn leaf(
     text: &[u8],
     at: usize,
-    levels: usize,
-    rows: usize,
-    names: &[u8],
-    ends: &[usize],
-    noted: &[bool; 256],
+    row: Row,
     post: &mut [u16; 1024],
-    label: &mut [u16; 1024],
-) -> SentenceAnswer
-    requires { (1 ≤ at) × (at ≤ length text.now) × (levels ≤ 64) × (64 ≤ levels + rows) × Marked names.now 0 ends.now × (length ends.now ≤ 32) × NotedBytes names.now noted.now }
-    ensures { MeetsTree text.now names.now at levels rows result post.old post.new label.old label.new }
+) -> Result<SentenceReading, Refusal>
+    requires { (at ≤ length text.now) × (row.number < 1024) }
+    ensures { MeetsLeaf text.now at row.levels row.number result post.old post.new }
 {
-    let s = start(text, at, levels, rows);
-    match s {
-        SentenceAnswer::Read(e, w) => {
-            label[rows] = label_number(text, at, e, names, ends, noted);
-            if peek(text, w) != b'(' {
-                return leaf(text, w, levels, rows, post);
-            }
-            let r = body(
-                text,
-                w,
-                levels - 1,
-                rows + 1,
-                names,
-                ends,
-                noted,
-                post,
-                label,
-            );
-            match r {
-                SentenceAnswer::Read(after, next) => close(text, next, after, levels, rows, post),
-                SentenceAnswer::Refused(why) => SentenceAnswer::Refused(why),
-            }
-        }
-        SentenceAnswer::Refused(why) => SentenceAnswer::Refused(why),
+    let end = letters_end(text, at);
+    if end == at {
+        return Err(Refusal::Brackets(at));
     }
+    if 64 < end - at {
+        return Err(Refusal::Brackets(at + 64));
+    }
+    let next = skip_white(text, end);
+    close(text, next, row.number + 1, row, post)
 }
 
-// A body of trees, each from its opening parenthesis; and the white space behind it.
-#[cycle(body_tree)]
-fn body(
-    text: &[u8],
-    at: usize,
-    levels: usize,
-    rows: usize,
-    names: &[u8],
-    ends: &[usize],
-    noted: &[bool; 256],
-    post: &mut [u16; 1024],
-    label: &mut [u16; 1024],
-) -> SentenceAnswer
-    requires { (get_or text.now at 0 ≡ 40) × (levels ≤ 64) × (64 ≤ levels + rows) × Marked names.now 0 ends.now × (length ends.now ≤ 32) × NotedBytes names.now noted.now }
-    ensures { MeetsBody text.now names.now at levels rows result post.old post.new label.old label.new }
-{
-    let mut here = at;
-    let mut count = rows;
-    loop {
-        let r = tree(
-            text,
-            here + 1,
-            levels,
-            count,
-            names,
-            ends,
-            noted,
-            post,
-            label,
-        );
-        match r {
-            SentenceAnswer::Read(after, next) => {
-                let y = skip_white(text, next);
-                if peek(text, y) != b'(' {
-                    return SentenceAnswer::Read(after, y);
-                }
-                here = y;
-                count = after;
-            }
-            SentenceAnswer::Refused(why) => {
-                return SentenceAnswer::Refused(why);
-            }
+impl Source<'_> {
+    // A row's tree, from just behind its opening parenthesis. It is a part of its callers, so that only a row with rows
+    // below it costs a call.
+    #[cycle(body_tree)]
+    #[inline(always)]
+    fn tree(
+        &self,
+        at: usize,
+        row: Row,
+        columns: &mut Columns<'_>,
+    ) -> Result<SentenceReading, Refusal>
+        requires { (1 ≤ at) × (at ≤ length self.now.text.now) }
+        ensures { MeetsTree self.now.text.now self.now.names.now at row.levels row.number result columns.old.post.now columns.new.post.now columns.old.label.now columns.new.label.now }
+    {
+        let text = self.text;
+        let label = row_label(text, at, row)?;
+        columns.label[row.number] = self.names.number_of(&text[at..label.end]);
+        if peek(text, label.body) != b'(' {
+            return leaf(text, label.body, row, columns.post);
         }
+        let first = Row {
+            number: row.number + 1,
+            levels: row.levels - 1,
+        };
+        let below = self.body(label.body, first, columns)?;
+        close(text, below.end, below.rows, row, columns.post)
     }
-}
 
-// The outermost tree. It is read beside `tree`, and not by it: `tree` has one caller, whose loop it becomes a part of, and
-// only a row with rows below it costs a call.
-fn root(
-    text: &[u8],
-    at: usize,
-    names: &[u8],
-    ends: &[usize],
-    noted: &[bool; 256],
-    post: &mut [u16; 1024],
-    label: &mut [u16; 1024],
-) -> SentenceAnswer
-    requires { (1 ≤ at) × (at ≤ length text.now) × Marked names.now 0 ends.now × (length ends.now ≤ 32) × NotedBytes names.now noted.now }
-    ensures { MeetsTree text.now names.now at 64 0 result post.old post.new label.old label.new }
-{
-    let s = start(text, at, 64, 0);
-    match s {
-        SentenceAnswer::Read(e, w) => {
-            label[0] = label_number(text, at, e, names, ends, noted);
-            if peek(text, w) != b'(' {
-                return leaf(text, w, 64, 0, post);
-            }
-            let r = body(text, w, 63, 1, names, ends, noted, post, label);
-            match r {
-                SentenceAnswer::Read(after, next) => close(text, next, after, 64, 0, post),
-                SentenceAnswer::Refused(why) => SentenceAnswer::Refused(why),
+    // A body of trees, each from its opening parenthesis, the first of row `first`; and the white space behind it.
+    #[cycle(body_tree)]
+    fn body(
+        &self,
+        at: usize,
+        first: Row,
+        columns: &mut Columns<'_>,
+    ) -> Result<SentenceReading, Refusal>
+        requires { get_or self.now.text.now at 0 ≡ 40 }
+        ensures { MeetsBody self.now.text.now self.now.names.now at first.levels first.number result columns.old.post.now columns.new.post.now columns.old.label.now columns.new.label.now }
+    {
+        let levels = first.levels;
+        let mut here = SentenceReading {
+            rows: first.number,
+            end: at,
+        };
+        loop {
+            let row = Row {
+                number: here.rows,
+                levels,
+            };
+            let tree = self.tree(here.end + 1, row, columns)?;
+            here = SentenceReading {
+                rows: tree.rows,
+                end: skip_white(self.text, tree.end),
+            };
+            if peek(self.text, here.end) != b'(' {
+                return Ok(here);
             }
         }
-        SentenceAnswer::Refused(why) => SentenceAnswer::Refused(why),
     }
-}
 
-// A sentence at the text's front, into columns of 1,024 places; a refusal leaves these in any state.
-pub(crate) fn sentence(
-    text: &[u8],
-    names: &[u8],
-    ends: &[usize],
-    noted: &[bool; 256],
-    post: &mut [u16; 1024],
-    label: &mut [u16; 1024],
-) -> SentenceAnswer
-    requires { Marked names.now 0 ends.now × (length ends.now ≤ 32) × NotedBytes names.now noted.now }
-    ensures { MeetsWhole text.now names.now result post.old post.new label.old label.new }
-{
-    let a = skip_white(text, 0);
-    if peek(text, a) != b'(' {
-        return SentenceAnswer::Refused(Refusal::Brackets(a));
-    }
-    let v = a + 1;
-    if is_inner(peek(text, v)) {
-        return root(text, v, names, ends, noted, post, label);
-    }
-    let b = skip_white(text, v);
-    if peek(text, b) != b'(' {
-        return SentenceAnswer::Refused(Refusal::Brackets(b));
-    }
-    let r = root(text, b + 1, names, ends, noted, post, label);
-    match r {
-        SentenceAnswer::Read(rows, next) => {
-            let y = skip_white(text, next);
-            if peek(text, y) != b')' {
-                return SentenceAnswer::Refused(Refusal::Brackets(y));
-            }
-            SentenceAnswer::Read(rows, y + 1)
+    // A sentence at the text's front, into columns that a refusal leaves in any state.
+    pub(crate) fn sentence(&self, columns: &mut Columns<'_>) -> Result<SentenceReading, Refusal>
+        ensures { MeetsWhole self.now.text.now self.now.names.now result columns.old.post.now columns.new.post.now columns.old.label.now columns.new.label.now }
+    {
+        let text = self.text;
+        let outer = skip_white(text, 0);
+        if peek(text, outer) != b'(' {
+            return Err(Refusal::Brackets(outer));
         }
-        SentenceAnswer::Refused(why) => SentenceAnswer::Refused(why),
+        let top = Row {
+            number: 0,
+            levels: 64,
+        };
+        let next = outer + 1;
+        if is_inner(peek(text, next)) {
+            return self.tree(next, top, columns);
+        }
+        let inside = skip_white(text, next);
+        if peek(text, inside) != b'(' {
+            return Err(Refusal::Brackets(inside));
+        }
+        let tree = self.tree(inside + 1, top, columns)?;
+        let shut = skip_white(text, tree.end);
+        if peek(text, shut) != b')' {
+            return Err(Refusal::Brackets(shut));
+        }
+        Ok(SentenceReading {
+            rows: tree.rows,
+            end: shut + 1,
+        })
     }
 }

@@ -7,37 +7,32 @@ mod texts;
 mod tries;
 
 use seen::{fails, left, refused, table};
-use texts::{deep, long_label, long_word, many, names};
+use texts::{deep, deep_in_pair, long_label, long_word, many, names};
 use tries::tries;
 
 // Document 01's sentence, and legal texts at the edges of the rules.
 fn legal_texts() {
     let d = b"( (S (NP (DT a) (NN dog)) (VP (VBD ran) (PP (IN in) (NP (NN rain))))) )";
-    let posts = [9u16, 2, 0, 1, 8, 3, 7, 4, 6, 5];
-    let labels = [65535u16, 0, 65535, 1, 65535, 65535, 65535, 65535, 0, 1];
+    let posts = [9, 2, 0, 1, 8, 3, 7, 4, 6, 5];
+    let labels = [65535, 0, 65535, 1, 65535, 65535, 65535, 65535, 0, 1];
     fails(1, table(d, b"NP\nNN\n", &posts, &labels));
     fails(
         2,
-        table(
-            b"(A (B b)(C c))",
-            b"",
-            &[2u16, 0, 1],
-            &[65535u16, 65535, 65535],
-        ),
+        table(b"(A (B b)(C c))", b"", &[2, 0, 1], &[65535, 65535, 65535]),
     );
-    fails(3, table(b"(A a )", b"A\n", &[0u16], &[0u16]));
+    fails(3, table(b"(A a )", b"A\n", &[0], &[0]));
 }
 
 // White space of all four kinds around parentheses.
 fn white_texts() {
-    fails(4, table(b"((A a))", b"B\nA\n", &[0u16], &[1u16]));
+    fails(4, table(b"((A a))", b"B\nA\n", &[0], &[1]));
     fails(
         5,
         table(
             b"\t\r\n ( \t\r\n (A \t\r\n a \t\r\n ) \t\r\n )",
             b"",
-            &[0u16],
-            &[65535u16],
+            &[0],
+            &[65535],
         ),
     );
     fails(
@@ -45,32 +40,32 @@ fn white_texts() {
         table(
             b" (A \t\r\n (B\tb)\r\n\t (C\rc) \n )",
             b"C\nB\nA\n",
-            &[2u16, 0, 1],
-            &[2u16, 1, 0],
+            &[2, 0, 1],
+            &[2, 1, 0],
         ),
     );
-    fails(7, table(b"(A a))", b"A\n", &[0u16], &[0u16]));
+    fails(7, table(b"(A a))", b"A\n", &[0], &[0]));
 }
 
 // Names: what is cut off a label, equal names, an empty line.
 fn name_texts() {
-    let one = [0u16];
-    fails(11, table(b"(NP-SBJ a)", b"NP\n", &one, &[0u16]));
-    fails(12, table(b"(NP=2 a)", b"X\nNP\n", &one, &[1u16]));
-    fails(13, table(b"(NP=2-1 a)", b"NP=2\nNP\nNP\n", &one, &[1u16]));
-    fails(14, table(b"(-NONE- a)", b"NP\n", &one, &[65535u16]));
-    fails(15, table(b"(-NONE- a)", b"NP\n\nX\n", &one, &[1u16]));
-    fails(16, table(b"(=x a)", b"\n", &one, &[0u16]));
+    let one = [0];
+    fails(11, table(b"(NP-SBJ a)", b"NP\n", &one, &[0]));
+    fails(12, table(b"(NP=2 a)", b"X\nNP\n", &one, &[1]));
+    fails(13, table(b"(NP=2-1 a)", b"NP=2\nNP\nNP\n", &one, &[1]));
+    fails(14, table(b"(-NONE- a)", b"NP\n", &one, &[65535]));
+    fails(15, table(b"(-NONE- a)", b"NP\n\nX\n", &one, &[1]));
+    fails(16, table(b"(=x a)", b"\n", &one, &[0]));
 }
 
 // Names: what no line feed closes, names that begin alike.
 fn list_texts() {
-    let one = [0u16];
-    fails(17, table(b"(NP a)", b"NP", &one, &[65535u16]));
-    fails(18, table(b"(NP a)", b"N\nNPP\nNP", &one, &[65535u16]));
-    fails(19, table(b"(NP a)", b"N\nNPP\nNP\nNP\n", &one, &[2u16]));
-    fails(20, table(b"(NP a)", b"", &one, &[65535u16]));
-    fails(21, table(b"(A-B a)", b"A-B\n(\nA\n", &one, &[2u16]));
+    let one = [0];
+    fails(17, table(b"(NP a)", b"NP", &one, &[65535]));
+    fails(18, table(b"(NP a)", b"N\nNPP\nNP", &one, &[65535]));
+    fails(19, table(b"(NP a)", b"N\nNPP\nNP\nNP\n", &one, &[2]));
+    fails(20, table(b"(NP a)", b"", &one, &[65535]));
+    fails(21, table(b"(A-B a)", b"A-B\n(\nA\n", &one, &[2]));
 }
 
 // The places of 11: labels and pairs.
@@ -108,63 +103,38 @@ fn wrong_bytes() {
 
 // Labels and words of 64 bytes, and one more.
 fn token_texts() {
-    let mut space = [0u8; 128];
-    let n = long_word(&mut space, 64);
-    fails(61, table(texts::part(&space, n), b"A\n", &[0u16], &[0u16]));
-    let n = long_word(&mut space, 65);
-    fails(62, refused(texts::part(&space, n), 11, 67));
-    let n = long_label(&mut space, 64);
-    fails(
-        63,
-        table(texts::part(&space, n), b"A\n", &[0u16], &[65535u16]),
-    );
-    let n = long_label(&mut space, 65);
-    fails(64, refused(texts::part(&space, n), 11, 65));
+    fails(61, table(long_word(64).bytes(), b"A\n", &[0], &[0]));
+    fails(62, refused(long_word(65).bytes(), 11, 67));
+    fails(63, table(long_label(64).bytes(), b"A\n", &[0], &[65535]));
+    fails(64, refused(long_label(65).bytes(), 11, 65));
 }
 
 // Levels, and one more; also in a bare pair.
 fn depth_texts() {
-    let mut space = [0u8; 512];
-    let n = deep(&mut space, 64, false);
-    fails(65, left(texts::part(&space, n), 64, n));
-    let n = deep(&mut space, 65, false);
-    fails(66, refused(texts::part(&space, n), 12, 192));
-    let n = deep(&mut space, 64, true);
-    fails(67, left(texts::part(&space, n), 64, n));
-    let n = deep(&mut space, 65, true);
-    fails(68, refused(texts::part(&space, n), 12, 193));
+    let text = deep(64);
+    fails(65, left(text.bytes(), 64, text.bytes().len()));
+    fails(66, refused(deep(65).bytes(), 12, 192));
+    let text = deep_in_pair(64);
+    fails(67, left(text.bytes(), 64, text.bytes().len()));
+    fails(68, refused(deep_in_pair(65).bytes(), 12, 193));
 }
 
 // Rows and names, and one more.
 fn row_texts() {
-    let mut space = [0u8; 8192];
-    let n = many(&mut space, 1024);
-    fails(69, left(texts::part(&space, n), 1024, n));
-    let n = many(&mut space, 1025);
-    fails(70, refused(texts::part(&space, n), 12, 5118));
-    let n = names(&mut space, 32);
-    fails(71, seen::counted(texts::part(&space, n), 0, 0));
-    let n = names(&mut space, 33);
-    fails(72, seen::counted(texts::part(&space, n), 4, 0));
+    let text = many(1024);
+    fails(69, left(text.bytes(), 1024, text.bytes().len()));
+    fails(70, refused(many(1025).bytes(), 12, 5118));
+    fails(71, seen::takes(names(32).bytes()));
+    fails(72, seen::miscounts(names(33).bytes()));
 }
 
 // Columns exactly long enough, longer, and one short.
 fn columns() {
-    let mut p = [7u16; 3];
-    let mut l = [7u16; 3];
-    fails(73, seen::three(&mut p, &mut l, 0));
-    let mut p = [7u16; 5];
-    let mut l = [7u16; 4];
-    fails(74, seen::three(&mut p, &mut l, 0));
-    let mut p = [7u16; 2];
-    let mut l = [7u16; 4];
-    fails(75, seen::three(&mut p, &mut l, 9));
-    let mut p = [7u16; 4];
-    let mut l = [7u16; 2];
-    fails(76, seen::three(&mut p, &mut l, 9));
-    let mut p = [7u16; 1];
-    let mut l = [7u16; 1];
-    fails(77, seen::three(&mut p, &mut l, 9));
+    fails(73, seen::reads_three(&mut [7; 3], &mut [7; 3]));
+    fails(74, seen::reads_three(&mut [7; 5], &mut [7; 4]));
+    fails(75, seen::is_short_of_three(&mut [7; 2], &mut [7; 4]));
+    fails(76, seen::is_short_of_three(&mut [7; 4], &mut [7; 2]));
+    fails(77, seen::is_short_of_three(&mut [7; 1], &mut [7; 1]));
 }
 
 // The rest of a text, and several sentences one after the other.

@@ -1,75 +1,95 @@
-// Texts at the limits, written to the front of a buffer; each function answers the text's length.
+// Texts put together from parts, and texts at the limits.
+ghost use Rattle.std.specs.Prelude.{◌≤◌};
 
-// The first n bytes of a buffer.
-pub(crate) fn part(s: &[u8], n: usize) -> &[u8] {
-    let a: usize = 0;
-    if n <= s.len() { &s[a..n] } else { s }
+// A text of N bytes at most.
+#[derive(Drop)]
+pub(crate) struct Text<const N: usize> {
+    room: [u8; N],
+    len: usize,
+    ghost in_room: { len ≤ N },
 }
 
-// Adds the bytes of `more` from a place on, as far as there is room, and answers the place behind them.
-pub(crate) fn add(out: &mut [u8], at: usize, more: &[u8]) -> usize {
-    let mut i: usize = 0;
-    let mut k = at;
-    while i < more.len() {
-        if out.len() <= k {
-            return k;
+impl<const N: usize> Text<N> {
+    pub(crate) fn new() -> Text<N> {
+        Text {
+            room: [0; N],
+            len: 0,
         }
-        out[k] = more[i];
-        i += 1;
-        k += 1;
     }
-    k
-}
 
-// The same, n times.
-pub(crate) fn add_times(out: &mut [u8], at: usize, more: &[u8], n: usize) -> usize {
-    let mut i: usize = 0;
-    let mut k = at;
-    while i < n {
-        let e = add(out, k, more);
-        k = e;
-        i += 1;
+    // Adds as much of a part as there is room for.
+    pub(crate) fn add(&mut self, part: &[u8]) {
+        let n = part.len().min(N - self.len);
+        let room = &mut self.room[..];
+        room[self.len..self.len + n].copy_from_slice(&part[..n]);
+        self.len += n;
     }
-    k
-}
 
-pub(crate) fn long_word(out: &mut [u8], n: usize) -> usize {
-    let a = add(out, 0, b"(A ");
-    let b = add_times(out, a, b"x", n);
-    add(out, b, b")")
-}
-
-pub(crate) fn long_label(out: &mut [u8], n: usize) -> usize {
-    let a = add(out, 0, b"(");
-    let b = add_times(out, a, b"x", n);
-    add(out, b, b" A)")
-}
-
-// n trees, one in the other, perhaps in a bare pair.
-pub(crate) fn deep(out: &mut [u8], n: usize, bare: bool) -> usize {
-    if bare {
-        let a = add(out, 0, b"(");
-        let b = add_times(out, a, b"(A ", n);
-        let c = add(out, b, b"a");
-        let d = add_times(out, c, b")", n);
-        return add(out, d, b")");
+    pub(crate) fn add_times(&mut self, part: &[u8], n: usize) {
+        for _ in 0..n {
+            self.add(part);
+        }
     }
-    let b = add_times(out, 0, b"(A ", n);
-    let c = add(out, b, b"a");
-    add_times(out, c, b")", n)
+
+    // Puts one byte in the place of another.
+    pub(crate) fn put(&mut self, i: usize, b: u8) {
+        if i < self.len {
+            self.room[i] = b;
+        }
+    }
+
+    pub(crate) fn bytes(&self) -> &[u8] {
+        let room = &self.room[..];
+        &room[..self.len]
+    }
+}
+
+pub(crate) fn long_word(n: usize) -> Text<128> {
+    let mut text = Text::new();
+    text.add(b"(A ");
+    text.add_times(b"x", n);
+    text.add(b")");
+    text
+}
+
+pub(crate) fn long_label(n: usize) -> Text<128> {
+    let mut text = Text::new();
+    text.add(b"(");
+    text.add_times(b"x", n);
+    text.add(b" A)");
+    text
+}
+
+// n trees, one in the other.
+pub(crate) fn deep(n: usize) -> Text<512> {
+    let mut text = Text::new();
+    text.add_times(b"(A ", n);
+    text.add(b"a");
+    text.add_times(b")", n);
+    text
+}
+
+// The same in a bare pair.
+pub(crate) fn deep_in_pair(n: usize) -> Text<512> {
+    let mut text = Text::new();
+    text.add(b"(");
+    text.add(deep(n).bytes());
+    text.add(b")");
+    text
 }
 
 // A root and n - 1 trees in it.
-pub(crate) fn many(out: &mut [u8], n: usize) -> usize {
-    let a = add(out, 0, b"(A ");
-    if n == 0 {
-        return a;
-    }
-    let b = add_times(out, a, b"(A a)", n - 1);
-    add(out, b, b")")
+pub(crate) fn many(n: usize) -> Text<8192> {
+    let mut text = Text::new();
+    text.add(b"(A ");
+    text.add_times(b"(A a)", n.saturating_sub(1));
+    text.add(b")");
+    text
 }
 
 // A list of n names.
-pub(crate) fn names(out: &mut [u8], n: usize) -> usize {
-    add_times(out, 0, b"NP\n", n)
+pub(crate) fn names(n: usize) -> Text<8192> {
+    let mut text = Text::new();
+    text.add_times(b"NP\n", n);
+    text
 }

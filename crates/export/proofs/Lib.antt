@@ -1,6 +1,5 @@
 -- What the proofs of several functions use.
 pub mod Lists
-pub mod Told
 pub mod Gathered
 pub mod Readings
 pub mod Answered

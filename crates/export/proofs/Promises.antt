@@ -12,16 +12,17 @@ use lib.Seq.{ext_get_or}
 use borrow.Author.Tests.{ltb-true, le-ltb, le-leb, eq-eqb}
 use Rattle.meaning.specs.Tests.{◌&◌, tab}
 use Rattle.meaning.specs.Names.{pick}
-use Rattle.meaning.specs.QueryTexts.{reading}
+use Rattle.meaning.specs.QueryTexts.{reading, query_for}
 use Rattle.meaning.specs.Query.{asked, is_counted, no_label, no-condition, label_at, axis_at}
 use Rattle.meaning.specs.Entries.{query_answer}
 use Rattle.meaning.specs.Told.{told_sentence}
 use Rattle.meaning.specs.declared.Condition.{Condition}
 use Rattle.meaning.specs.declared.LabelCondition.{LabelCondition}
 use Rattle.meaning.specs.declared.Query.{Query}
-use Rattle.meaning.specs.declared.QueryAnswer.TheVariants.{Refused}
+use Rattle.std.specs.Prelude.{Result, Err}
+use Rattle.meaning.specs.declared.Refusal.{Refusal}
 use Rattle.meaning.specs.declared.Refusal.TheVariants.{Counts}
-use Rattle.meaning.specs.declared.SentenceAnswer.{SentenceAnswer}
+use Rattle.meaning.specs.declared.SentenceReading.{SentenceReading}
 use Rattle.theory.specs.Tests.{tab-at, tab-length}
 use Rattle.query.proofs.Laws.{says_counts, head-length, labels_length as labels-length-asked, axes-length as axes-length-asked, labels_at}
 use Rattle.brackets.specs.Unique.{one_answer, one_post, one_label}
@@ -36,7 +37,7 @@ not_counted : (v : ℕ) (h ls cs : List ℕ) → is_whole (length h) (length ls)
 unfolding lent pick is_counted ◌&◌
 not_counted v h ls cs e = rw e
 
-pub refused_4 : (v : ℕ) (h ls cs : List ℕ) → is_whole (length h) (length ls) (length cs) ≡ false → query_answer (lent v h ls cs) ≡ Refused Counts
+pub refused_4 : (v : ℕ) (h ls cs : List ℕ) → is_whole (length h) (length ls) (length cs) ≡ false → query_answer (lent v h ls cs) ≡ Err Counts
 refused_4 v h ls cs e = sym (says_counts (lent v h ls cs) (not_counted v h ls cs e))
 
 -- a variable that counts as 255 is too large for a query exactly if the one that was lent is
@@ -143,8 +144,8 @@ asked-again q f =
     (λ i k. let m = labels_at q i (omega (arith, k, l)) in let s = f.small i in rw m s)
 
 -- what a query text leaves, lent to an entry, asks what the text asks
-pub read_again : (s : List ℕ) (m : ℕ) → (let q = (reading s m).query in lent q.variables (asked q).head (label_numbers (asked q).labels) (axis_numbers (asked q).axes) ≡ asked q)
-read_again s m = asked-again (reading s m).query (few-read s m)
+pub read_again : (s : List ℕ) (m : ℕ) → (let q = query_for (reading s m) in lent q.variables (asked q).head (label_numbers (asked q).labels) (axis_numbers (asked q).axes) ≡ asked q)
+read_again s m = asked-again (query_for (reading s m)) (few-read s m)
 
 -- ---- any two results that the contract for sentences allows are equal
 
@@ -152,7 +153,7 @@ pub one_told : (text list post label : List ℕ) (w w' p p' l l' : List ℕ) →
     (w ≡ w') × (p ≡ p') × (l ≡ l')
 one_told text list post label w w' p p' l l' R S =
     let a = one_answer text list post label R.answer S.answer p p' l l' R.read S.read in (
-      R.words ∙ (ap (λ (x : SentenceAnswer). told_words (told_sentence x)) a ∙ sym S.words),
+      R.words ∙ (ap (λ (x : Result SentenceReading Refusal). told_words (told_sentence x)) a ∙ sym S.words),
       one_post text list post label R.answer S.answer p p' l l' R.read S.read,
       one_label text list post label R.answer S.answer p p' l l' R.read S.read,
     )

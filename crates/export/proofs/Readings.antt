@@ -13,8 +13,9 @@ use Rattle.meaning.specs.Query.{label_at, no_label}
 use Rattle.meaning.specs.QueryTexts.{query, said, Said, Phrase, variables, names, same, has, place_in, axis-names, label_of, labels_in, pad, heads, labels, axis_conditions, made, query_of, blank_query, outside, answer_of, answer_at, answer, query_for, reading_of, reading}
 use Rattle.meaning.specs.declared.LabelCondition.{LabelCondition}
 use Rattle.meaning.specs.declared.Query.{Query}
-use Rattle.meaning.specs.declared.QueryTextAnswer.{QueryTextAnswer}
-use Rattle.meaning.specs.declared.QueryTextAnswer.TheVariants.{Read, Refused}
+use Rattle.std.specs.Prelude.{Result, Ok, Err}
+use Rattle.meaning.specs.declared.QueryReading.{QueryReading}
+use Rattle.meaning.specs.declared.Refusal.{Refusal}
 use Rattle.meaning.specs.declared.Refusal.TheVariants.{Counts}
 
 pub record Few (q : Query) : Type 0 where
@@ -94,29 +95,29 @@ inside-few q e =
       small = λ i. let m = small_pad (length (variables q)) 32 _ (small_labels (variables q) (names q) q.conditions) i in omega (arith, v, m);
     }
 
-over : (q : Said) (m : ℕ) → outside q ≡ true → answer_of q m ≡ Refused Counts
+over : (q : Said) (m : ℕ) → outside q ≡ true → answer_of q m ≡ Err Counts
 unfolding answer_of pick
 over q m d = rw d
 
 -- a text that is read has its counts inside; one that is refused has the blank query
-few_for : (q : Said) (m : ℕ) (a : QueryTextAnswer) → a ≡ answer_of q m → Few (query_for a q)
-unfolding query_for
-few_for q m (Refused r) e = blank-few
-few_for q m (Read n) e = go (outside q) refl
+few_for : (q : Said) (m : ℕ) (a : Result ℕ Refusal) → a ≡ answer_of q m → Few (query_for (reading_of a q))
+unfolding query_for reading_of
+few_for q m (Err r) e = blank-few
+few_for q m (Ok n) e = go (outside q) refl
   where
-    is_read : QueryTextAnswer → Bool
-    is_read (Read n) = true
-    is_read (Refused r) = false
+    is_read : Result ℕ Refusal → Bool
+    is_read (Ok n) = true
+    is_read (Err r) = false
 
     go : (b : Bool) → outside q ≡ b → Few (query_of q)
     go false d = inside-few q d
     go true d = absurd (false≢true (sym (ap is_read e ∙ ap is_read (over q m d))))
 
-few-at : (p : Place) (q : Said) (m : ℕ) → Few (query_for (answer_at p q m) q)
-unfolding answer_at query_for
+few-at : (p : Place) (q : Said) (m : ℕ) → Few (query_for (reading_of (answer_at p q m) q))
+unfolding answer_at query_for reading_of
 few-at legal q m = few_for q m (answer_of q m) refl
 few-at (bad p) q m = blank-few
 
-pub few-read : (s : List ℕ) (m : ℕ) → Few (reading s m).query
-unfolding reading reading_of answer
+pub few-read : (s : List ℕ) (m : ℕ) → Few (query_for (reading s m))
+unfolding reading answer
 few-read s m = few-at (place query s) (said s) m

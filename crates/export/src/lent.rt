@@ -1,19 +1,18 @@
 // A query as lists of numbers: gathered into a query by value, and written out from one.
 ghost use Rattle.std.specs.Prelude.{◌≡◌, ℕ, ◌*◌, ◌≤◌, ◌<◌, length, get_or};
 ghost use Rattle.meaning.specs.Query.{asked, no_label, no-condition};
+ghost use Rattle.meaning.specs.QueryTexts.{query_for};
 ghost use Rattle.meaning.specs.Entries.{at_front};
 ghost use Rattle.export.specs.Lent.{narrowed, lent_label, lent_axis, is_whole, no_question, lent, label_numbers, axis_numbers};
 
-use meaning::{Condition, LabelCondition, Query};
+use meaning::{Condition, LabelCondition, Query, QueryReading, Refusal};
 
 // A variable of a query by value is a byte. What is above it is too large in any case.
+#[tactic(auto, unfolding(crate::specs::Lent::narrowed))]
 fn narrow(x: u16) -> u8
     ensures { result ≡ narrowed x }
 {
-    if 255 < x {
-        return 255;
-    }
-    x as u8
+    if 255 < x { 255 } else { x as u8 }
 }
 
 // The lists hold a head of at most 8 and whole conditions, at most 32 of each kind.
@@ -40,11 +39,7 @@ fn gather_head(head: &[u8]) -> [u8; 8]
     ensures { (k : ℕ) → k < length head.now → get_or result k 0 ≡ get_or head.now k 0 }
 {
     let mut out = [0u8; 8];
-    let mut i: usize = 0;
-    while i < head.len() {
-        out[i] = head[i];
-        i += 1;
-    }
+    out[..head.len()].copy_from_slice(head);
     out
 }
 
@@ -56,13 +51,11 @@ fn gather_labels(labels: &[u16], n: usize) -> [LabelCondition; 32]
         variable: 0,
         label: 0,
     }; 32];
-    let mut i: usize = 0;
-    while i < n {
+    for i in 0..n {
         out[i] = LabelCondition {
             variable: narrow(labels[2 * i]),
             label: labels[2 * i + 1],
         };
-        i += 1;
     }
     out
 }
@@ -76,14 +69,12 @@ fn gather_axes(axes: &[u8], n: usize) -> [Condition; 32]
         first: 0,
         second: 0,
     }; 32];
-    let mut i: usize = 0;
-    while i < n {
+    for i in 0..n {
         out[i] = Condition {
             code: axes[3 * i],
             first: axes[3 * i + 1],
             second: axes[3 * i + 2],
         };
-        i += 1;
     }
     out
 }
@@ -133,48 +124,57 @@ pub(crate) fn gather(variables: usize, head: &[u8], labels: &[u16], axes: &[u8])
 }
 
 // The head of a query, to the front of `to`.
-pub(crate) fn write_head(q: Query, to: &mut [u8])
+fn write_head(q: Query, to: &mut [u8])
     requires { (q.head_count ≤ 8) × (q.head_count ≤ length to.old) }
     ensures { to.new ≡ at_front (asked q).head to.old }
 {
     let n = q.head_count;
     let head = q.head;
-    let mut i: usize = 0;
-    while i < n {
-        to[i] = head[i];
-        i += 1;
-    }
+    to[..n].copy_from_slice(&head[..n]);
 }
 
 // Its label conditions, two numbers each.
-pub(crate) fn write_labels(q: Query, to: &mut [u16])
+fn write_labels(q: Query, to: &mut [u16])
     requires { (q.label_count ≤ 32) × (2 * q.label_count ≤ length to.old) }
     ensures { to.new ≡ at_front (label_numbers (asked q).labels) to.old }
 {
-    let n = q.label_count;
     let labels = q.labels;
-    let mut i: usize = 0;
-    while i < n {
+    for i in 0..q.label_count {
         let c = labels[i];
         to[2 * i] = c.variable as u16;
         to[2 * i + 1] = c.label;
-        i += 1;
     }
 }
 
 // Its axis conditions, three numbers each.
-pub(crate) fn write_axes(q: Query, to: &mut [u8])
+fn write_axes(q: Query, to: &mut [u8])
     requires { (q.axis_count ≤ 32) × (3 * q.axis_count ≤ length to.old) }
     ensures { to.new ≡ at_front (axis_numbers (asked q).axes) to.old }
 {
-    let n = q.axis_count;
     let axes = q.axes;
-    let mut i: usize = 0;
-    while i < n {
+    for i in 0..q.axis_count {
         let c = axes[i];
         to[3 * i] = c.code;
         to[3 * i + 1] = c.first;
         to[3 * i + 2] = c.second;
-        i += 1;
+    }
+}
+
+// The query of a reading as three lists; a refused text writes nothing.
+pub(crate) fn write_reading(
+    r: Result<QueryReading, Refusal>,
+    head: &mut [u8; 8],
+    labels: &mut [u16; 64],
+    axes: &mut [u8; 96],
+)
+    requires { ((query_for r).head_count ≤ 8) × ((query_for r).label_count ≤ 32) × ((query_for r).axis_count ≤ 32) }
+    ensures { (head.new ≡ at_front (asked (query_for r)).head head.old)
+        × (labels.new ≡ at_front (label_numbers (asked (query_for r)).labels) labels.old)
+        × (axes.new ≡ at_front (axis_numbers (asked (query_for r)).axes) axes.old) }
+{
+    if let Ok(reading) = r {
+        write_head(reading.query, head);
+        write_labels(reading.query, labels);
+        write_axes(reading.query, axes);
     }
 }

@@ -12,11 +12,11 @@ ghost use Rattle.std.specs.Prelude.{◌≡◌, length};
 ghost use Rattle.meaning.specs.Query.{asked};
 ghost use Rattle.meaning.specs.Told.{told_table, told_query, told_prune, told_yes_no, told_search, told_list};
 ghost use Rattle.meaning.specs.Entries.{at_front, table_answer, query_answer, prune_answer, prune_leaves, yes_no_answer, yes_no_leaves, search_answer, search_leaves_sets, search_leaves_found, list_answer, list_leaves_sets, list_leaves_found};
-ghost use Rattle.meaning.specs.QueryTexts.{reading, buffer};
+ghost use Rattle.meaning.specs.QueryTexts.{reading, query_for, buffer};
 ghost use Rattle.export.specs.Lent.{lent, label_numbers, axis_numbers};
 ghost use Rattle.export.specs.Words.{told_words, told_reading, SentenceTold};
 
-use crate::lent::{gather, write_axes, write_head, write_labels};
+use crate::lent::{gather, write_reading};
 
 // Is the table a tree? No values.
 #[unsafe(no_mangle)]
@@ -78,7 +78,7 @@ pub extern "C" fn pouchmeadow_yes_or_no(
 {
     let q = gather(variables, head, labels, axes);
     let a = answers::yes_or_no(post, label, q, sets);
-    *told = words::of_yes_no(a);
+    *told = words::of_truth(a);
 }
 
 // The first answer after a tuple, into `found`. The value is 1 for found, 0 for nothing.
@@ -101,7 +101,7 @@ pub extern "C" fn pouchmeadow_find_after(
 {
     let q = gather(variables, head, labels, axes);
     let a = answers::find_after(post, label, q, tuple, sets, found);
-    *told = words::of_search(a);
+    *told = words::of_truth(a);
 }
 
 // Lists answers into `found`. The values are the ending (0 finished, 1 full, 2 spent), the tuples, the strikings used.
@@ -128,7 +128,7 @@ pub extern "C" fn pouchmeadow_list_answers(
 }
 
 // Reads a query text. The values are the bytes of the names, then the numbers of variables, of head variables, of label
-// conditions and of axis conditions. A refused text has a blank query, so nothing is written but `told`.
+// conditions and of axis conditions. Of a refused text nothing is written but `told`.
 #[unsafe(no_mangle)]
 pub extern "C" fn pouchmeadow_read_query(
     text: &[u8],
@@ -140,15 +140,12 @@ pub extern "C" fn pouchmeadow_read_query(
 )
     ensures { (told.new ≡ told_words (told_reading (reading text.now (length names.old))))
         × (names.new ≡ buffer text.now names.old)
-        × (head.new ≡ at_front (asked (reading text.now (length names.old)).query).head head.old)
-        × (labels.new ≡ at_front (label_numbers (asked (reading text.now (length names.old)).query).labels) labels.old)
-        × (axes.new ≡ at_front (axis_numbers (asked (reading text.now (length names.old)).query).axes) axes.old) }
+        × (head.new ≡ at_front (asked (query_for (reading text.now (length names.old)))).head head.old)
+        × (labels.new ≡ at_front (label_numbers (asked (query_for (reading text.now (length names.old)))).labels) labels.old)
+        × (axes.new ≡ at_front (axis_numbers (asked (query_for (reading text.now (length names.old)))).axes) axes.old) }
 {
     let r = pouchmeadow::read_query(text, names);
-    let q = r.query;
-    write_head(q, head);
-    write_labels(q, labels);
-    write_axes(q, axes);
+    write_reading(r, head, labels, axes);
     *told = words::of_reading(r);
 }
 

@@ -1,6 +1,6 @@
 -- What each entry of the library answers and leaves in each lent buffer, on every input. Assumes nothing: these are definitions.
 -- The entries that read texts stand with their texts.
-use Rattle.std.specs.Prelude.{Bool, true, false, cond, List, [], ◌∷◌, ◌++◌, ℕ, ◌*◌, ltb, eqb, length, drop, take, replicate}
+use Rattle.std.specs.Prelude.{Bool, true, false, cond, Result, Ok, Err, List, [], ◌∷◌, ◌++◌, ℕ, ◌*◌, ltb, eqb, length, drop, take, replicate}
 use Rattle.meaning.specs.Tests.{◌&◌, ◌or◌, non, every}
 use Rattle.meaning.specs.Table.{is_sized, is_numbered, is_nested}
 use Rattle.meaning.specs.Query.{Question, problem, is_counted, is_named, is_of_one_set, takes}
@@ -9,19 +9,8 @@ use Rattle.meaning.specs.Words.{width, words_of}
 use Rattle.meaning.specs.Answers.{row_at, is_yes, answers, answers_after}
 use Rattle.meaning.specs.Listing.{pruning, room, Outcome, outcome}
 use Rattle.meaning.specs.declared.Refusal.{Refusal}
+use Rattle.meaning.specs.declared.Listing.{Listing}
 use Rattle.meaning.specs.declared.Refusal.TheVariants.{Columns, PostNumbers, ThreeRows, Counts, Variables, Axes, EmptyHead, Tuple, ShortBuffer}
-use Rattle.meaning.specs.declared.TableAnswer.{TableAnswer}
-use Rattle.meaning.specs.declared.TableAnswer.TheVariants.{Tree, Refused as TableRefused}
-use Rattle.meaning.specs.declared.QueryAnswer.{QueryAnswer}
-use Rattle.meaning.specs.declared.QueryAnswer.TheVariants.{Accepted, Refused as QueryRefused}
-use Rattle.meaning.specs.declared.PruneAnswer.{PruneAnswer}
-use Rattle.meaning.specs.declared.PruneAnswer.TheVariants.{Pruned, Refused as PruneRefused}
-use Rattle.meaning.specs.declared.YesNoAnswer.{YesNoAnswer}
-use Rattle.meaning.specs.declared.YesNoAnswer.TheVariants.{Yes, No, Refused as YesNoRefused}
-use Rattle.meaning.specs.declared.SearchAnswer.{SearchAnswer}
-use Rattle.meaning.specs.declared.SearchAnswer.TheVariants.{Found, Nothing, Refused as SearchRefused}
-use Rattle.meaning.specs.declared.ListAnswer.{ListAnswer}
-use Rattle.meaning.specs.declared.ListAnswer.TheVariants.{Listed, Refused as ListRefused}
 
 -- a refusal and the test of whether it applies; grounds stand in the order of their numbers
 infix 25 ◌when◌
@@ -45,22 +34,22 @@ at_front new buffer = new ++ drop (length new) buffer
 unfoldable pub table_grounds : List ℕ → List ℕ → List Ground
 table_grounds t labels = (Columns when non (is_sized t labels)) ∷ (PostNumbers when non (is_numbered t)) ∷ (ThreeRows when non (is_nested t)) ∷ []
 
-unfoldable pub table_says : Verdict → TableAnswer
-table_says fine = Tree
-table_says (refuse r) = TableRefused r
+unfoldable pub table_says : Verdict → Result (Unit {0}) Refusal
+table_says fine = Ok tt
+table_says (refuse r) = Err r
 
-unfoldable pub table_answer : List ℕ → List ℕ → TableAnswer
+unfoldable pub table_answer : List ℕ → List ℕ → Result (Unit {0}) Refusal
 table_answer t labels = table_says (lowest (table_grounds t labels))
 
 -- The query check: which set it takes.
 unfoldable pub query_grounds : Question → List Ground
 query_grounds q = (Counts when non (is_counted q)) ∷ (Variables when non (is_named q)) ∷ (Axes when non (is_of_one_set q)) ∷ []
 
-unfoldable pub query_says : Verdict → ℕ → QueryAnswer
-query_says fine s = Accepted s
-query_says (refuse r) s = QueryRefused r
+unfoldable pub query_says : Verdict → ℕ → Result ℕ Refusal
+query_says fine s = Ok s
+query_says (refuse r) s = Err r
 
-unfoldable pub query_answer : Question → QueryAnswer
+unfoldable pub query_answer : Question → Result ℕ Refusal
 query_answer q = query_says (lowest (query_grounds q)) (takes q)
 
 -- the words that the sets need
@@ -71,11 +60,11 @@ needed t q = q.variables * width (length t)
 unfoldable pub prune_grounds : List ℕ → List ℕ → Question → List ℕ → List Ground
 prune_grounds t labels q sets = table_grounds t labels ++ (query_grounds q ++ ((ShortBuffer when ltb (length sets) (needed t q)) ∷ []))
 
-unfoldable pub prune_says : Verdict → ℕ → PruneAnswer
-prune_says fine n = Pruned n
-prune_says (refuse r) n = PruneRefused r
+unfoldable pub prune_says : Verdict → ℕ → Result ℕ Refusal
+prune_says fine n = Ok n
+prune_says (refuse r) n = Err r
 
-unfoldable pub prune_answer : List ℕ → List ℕ → Question → List ℕ → PruneAnswer
+unfoldable pub prune_answer : List ℕ → List ℕ → Question → List ℕ → Result ℕ Refusal
 prune_answer t labels q sets = let P = problem t labels q in prune_says (lowest (prune_grounds t labels q sets)) (strikings P P.start)
 
 -- what an accepted input leaves, and a refused one: the buffer as it was
@@ -93,12 +82,11 @@ unfoldable pub cleared : List ℕ → Question → List ℕ → List ℕ
 cleared t q sets = at_front (replicate (needed t q) 0) sets
 
 -- Yes or no: refused as pruning is.
-unfoldable pub yes_no_says : Verdict → Bool → YesNoAnswer
-yes_no_says fine true = Yes
-yes_no_says fine false = No
-yes_no_says (refuse r) b = YesNoRefused r
+unfoldable pub yes_no_says : Verdict → Bool → Result Bool Refusal
+yes_no_says fine b = Ok b
+yes_no_says (refuse r) b = Err r
 
-unfoldable pub yes_no_answer : List ℕ → List ℕ → Question → List ℕ → YesNoAnswer
+unfoldable pub yes_no_answer : List ℕ → List ℕ → Question → List ℕ → Result Bool Refusal
 yes_no_answer t labels q sets = yes_no_says (lowest (prune_grounds t labels q sets)) (is_yes (problem t labels q))
 
 unfoldable pub yes_no_leaves : List ℕ → List ℕ → Question → List ℕ → List ℕ
@@ -117,12 +105,12 @@ search_grounds t labels q tuple sets found =
     ∷ (ShortBuffer when ltb (length sets) (needed t q) or ltb (length found) (length q.head))
     ∷ []))
 
-unfoldable pub search_says : Verdict → List (List ℕ) → SearchAnswer
-search_says fine [] = Nothing
-search_says fine (s ∷ ss) = Found
-search_says (refuse r) ss = SearchRefused r
+unfoldable pub search_says : Verdict → List (List ℕ) → Result Bool Refusal
+search_says fine [] = Ok false
+search_says fine (s ∷ ss) = Ok true
+search_says (refuse r) ss = Err r
 
-unfoldable pub search_answer : List ℕ → List ℕ → Question → List ℕ → List ℕ → List ℕ → SearchAnswer
+unfoldable pub search_answer : List ℕ → List ℕ → Question → List ℕ → List ℕ → List ℕ → Result Bool Refusal
 search_answer t labels q tuple sets found =
     search_says (lowest (search_grounds t labels q tuple sets found)) (answers_after (problem t labels q) tuple)
 
@@ -150,11 +138,11 @@ list_outcome t labels q allowance places =
     let P = problem t labels q in
     outcome P (pruning P) (answers P) allowance (room places (length q.head))
 
-unfoldable pub list_says : Verdict → Outcome → ListAnswer
-list_says fine o = Listed o.ending o.tuples o.used
-list_says (refuse r) o = ListRefused r
+unfoldable pub list_says : Verdict → Outcome → Result Listing Refusal
+list_says fine o = Ok (record { ending = o.ending; tuples = o.tuples; strikings = o.used })
+list_says (refuse r) o = Err r
 
-unfoldable pub list_answer : List ℕ → List ℕ → Question → ℕ → List ℕ → List ℕ → ListAnswer
+unfoldable pub list_answer : List ℕ → List ℕ → Question → ℕ → List ℕ → List ℕ → Result Listing Refusal
 list_answer t labels q allowance sets found =
     list_says (lowest (list_grounds t labels q sets)) (list_outcome t labels q allowance (length found))
 

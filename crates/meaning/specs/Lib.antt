@@ -1,6 +1,7 @@
 pub mod Tests
 pub mod Table
 pub mod Axes
+pub mod AxisCodes
 pub mod Query
 pub mod Pruning
 pub mod Words

@@ -1,5 +1,5 @@
 -- Query texts and their readings, computed: document 01's own, and texts on both sides of each line. Assumes nothing.
-use Rattle.std.specs.Prelude.{◌≡◌, refl, List, [], ◌∷◌, ◌++◌, ℕ}
+use Rattle.std.specs.Prelude.{◌≡◌, refl, Ok, List, [], ◌∷◌, ◌++◌, ℕ}
 use Prim.Native.String.{String}
 use Rattle.meaning.specs.Tests.{◌&◌, ◌or◌, non, some}
 use Rattle.meaning.specs.Axes.{bytes, axes}
@@ -8,7 +8,6 @@ use Rattle.meaning.specs.Places.{ends, some_byte, alive, is_none, is_empty, cat,
 use Rattle.meaning.specs.QueryTexts.{blank, lower, in_variable, variable, upper, in_label, label, axis-names, axis, blanks, ◌~◌, listed, head, condition, query, in_word, put, words, is_variable, with_word, phrases, said, same, place_in, has, once, variables_of, label-names_of, variables, names, label_of, axis_conditions_of, labels_in, axes_in, heads, labels, axis_conditions, pad, no_label, no-condition, made, query_of, blank_query, outside, twice, in_label_condition, in_axis_condition, unused, closed, answer_of, answer_at, answer, query_for, reading_of, reading, buffer_for, buffer}
 use Rattle.meaning.specs.Told.{number, place as place_of, Told, given, refused, told_query_text}
 use Rattle.meaning.specs.declared.Query.{Query}
-use Rattle.meaning.specs.declared.QueryTextAnswer.TheVariants.{Read}
 
 -- the legal texts
 placing : Unit {0}
@@ -35,7 +34,7 @@ example_query = record {
   axes = pad 32 no-condition (record { code = 1; first = 0; second = 1 } ∷ []);
 }
 
-pub example-read : reading example 8 ≡ record { answer = Read 6; query = example_query }
+pub example-read : reading example 8 ≡ Ok (record { bytes = 6; query = example_query })
 unfolding reads
 example-read = refl
 

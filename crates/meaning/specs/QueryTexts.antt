@@ -1,6 +1,6 @@
 -- Query texts, document 01's chapter of that name: the legal texts, what a legal text says, the query it makes, and the
 -- answer of a reader, its query and the byte buffer of the names as functions of the inputs. Assumes nothing: these are definitions.
-use Rattle.std.specs.Prelude.{◌≡◌, Bool, true, false, ◌⊎◌, List, [], ◌∷◌, ◌++◌, map, ℕ, zero, suc, eqb, ltb, length, get_or, drop}
+use Rattle.std.specs.Prelude.{◌≡◌, Result, Ok, Err, Bool, true, false, ◌⊎◌, List, [], ◌∷◌, ◌++◌, map, ℕ, zero, suc, eqb, ltb, length, get_or, drop}
 use Rattle.meaning.specs.Tests.{◌&◌, ◌or◌, non, some}
 use Rattle.meaning.specs.Axes.{Axis, axes, bytes}
 use Rattle.meaning.specs.Texts.{pick, Range, ◌to◌, among, Form, empty, byte, ◌then◌, ◌∣◌, many, Has, word, spelt, up_to, any_of, Place, legal, bad}
@@ -8,9 +8,8 @@ use Rattle.meaning.specs.Places.{place}
 use Rattle.meaning.specs.declared.Condition.{Condition}
 use Rattle.meaning.specs.declared.LabelCondition.{LabelCondition}
 use Rattle.meaning.specs.declared.Query.{Query}
+use Rattle.meaning.specs.declared.Refusal.{Refusal}
 use Rattle.meaning.specs.declared.Refusal.TheVariants.{Counts, Variables, ShortBuffer, QueryText, HeadVariable}
-use Rattle.meaning.specs.declared.QueryTextAnswer.{QueryTextAnswer}
-use Rattle.meaning.specs.declared.QueryTextAnswer.TheVariants.{Read, Refused}
 use Rattle.meaning.specs.declared.QueryReading.{QueryReading}
 
 infixr 20 ◌~◌
@@ -256,35 +255,37 @@ unfoldable pub closed : List (List ℕ) → List ℕ
 closed [] = []
 closed (n ∷ ns) = n ++ (10 ∷ closed ns)
 
-unfoldable pub answer_of : Said → ℕ → QueryTextAnswer
+unfoldable pub answer_of : Said → ℕ → Result ℕ Refusal
 answer_of q m =
-    pick (outside q) (Refused Counts)
-    (pick (twice (query_of q)) (Refused Variables)
-    (pick (unused (query_of q)) (Refused HeadVariable)
-    (pick (ltb m (length (closed (names q)))) (Refused ShortBuffer) (Read (length (closed (names q)))))))
+    pick (outside q) (Err Counts)
+    (pick (twice (query_of q)) (Err Variables)
+    (pick (unused (query_of q)) (Err HeadVariable)
+    (pick (ltb m (length (closed (names q)))) (Err ShortBuffer) (Ok (length (closed (names q)))))))
 
-unfoldable pub answer_at : Place → Said → ℕ → QueryTextAnswer
+unfoldable pub answer_at : Place → Said → ℕ → Result ℕ Refusal
 answer_at legal q m = answer_of q m
-answer_at (bad p) q m = Refused (QueryText p)
+answer_at (bad p) q m = Err (QueryText p)
 
--- 6. The answer to a text with a byte buffer of m bytes, the query beside it, and the buffer b afterwards.
+-- 6. The answer to a text with a byte buffer of m bytes, the reading with its query, and the buffer b afterwards.
 
-unfoldable pub answer : List ℕ → ℕ → QueryTextAnswer
+unfoldable pub answer : List ℕ → ℕ → Result ℕ Refusal
 answer s m = answer_at (place query s) (said s) m
 
-unfoldable pub query_for : QueryTextAnswer → Said → Query
-query_for (Read n) q = query_of q
-query_for (Refused r) q = blank_query
+unfoldable pub reading_of : Result ℕ Refusal → Said → Result QueryReading Refusal
+reading_of (Ok n) q = Ok (record { bytes = n; query = query_of q })
+reading_of (Err r) q = Err r
 
-unfoldable pub reading_of : QueryTextAnswer → Said → QueryReading
-reading_of a q = record { answer = a; query = query_for a q }
-
-unfoldable pub reading : List ℕ → ℕ → QueryReading
+unfoldable pub reading : List ℕ → ℕ → Result QueryReading Refusal
 reading s m = reading_of (answer s m) (said s)
 
-unfoldable pub buffer_for : QueryTextAnswer → Said → List ℕ → List ℕ
-buffer_for (Read n) q b = closed (names q) ++ drop n b
-buffer_for (Refused r) q b = b
+-- the query that a reading gives; a refused text has the blank query
+unfoldable pub query_for : Result QueryReading Refusal → Query
+query_for (Ok x) = x.query
+query_for (Err r) = blank_query
+
+unfoldable pub buffer_for : Result ℕ Refusal → Said → List ℕ → List ℕ
+buffer_for (Ok n) q b = closed (names q) ++ drop n b
+buffer_for (Err r) q b = b
 
 unfoldable pub buffer : List ℕ → List ℕ → List ℕ
 buffer s b = buffer_for (answer s (length b)) (said s) b

@@ -1,6 +1,6 @@
 -- A whole run of the program, document 01's chapter 'Program and a whole run': from the bytes it reads to the bytes it
 -- prints. Assumes nothing: these are definitions.
-use Rattle.std.specs.Prelude.{◌≡◌, List, [], ◌∷◌, ◌++◌, map, ℕ, zero, suc, ◌+◌, ◌/◌, ◌%◌, ltb, eqb, take, drop, replicate}
+use Rattle.std.specs.Prelude.{◌≡◌, Result, Ok, Err, List, [], ◌∷◌, ◌++◌, map, ℕ, zero, suc, ◌+◌, ◌/◌, ◌%◌, ltb, eqb, take, drop, replicate}
 use Rattle.meaning.specs.Tests.{Is, non}
 use Rattle.meaning.specs.Axes.{bytes}
 use Rattle.meaning.specs.Names.{pick}
@@ -13,12 +13,8 @@ use Rattle.meaning.specs.QueryTexts.{Said, said, names, closed, query_of, answer
 use Rattle.meaning.specs.declared.Refusal.{Refusal}
 use Rattle.meaning.specs.declared.Ending.{Ending}
 use Rattle.meaning.specs.declared.Ending.TheVariants.{Finished, Full, Spent}
-use Rattle.meaning.specs.declared.ListAnswer.{ListAnswer}
-use Rattle.meaning.specs.declared.ListAnswer.TheVariants.{Listed, Refused as ListRefused}
-use Rattle.meaning.specs.declared.QueryTextAnswer.{QueryTextAnswer}
-use Rattle.meaning.specs.declared.QueryTextAnswer.TheVariants.{Read as TextRead, Refused as TextRefused}
-use Rattle.meaning.specs.declared.SentenceAnswer.{SentenceAnswer}
-use Rattle.meaning.specs.declared.SentenceAnswer.TheVariants.{Read as SentenceRead, Refused as SentenceRefused}
+use Rattle.meaning.specs.declared.Listing.{Listing}
+use Rattle.meaning.specs.declared.SentenceReading.{SentenceReading}
 
 -- 1. Lines.
 
@@ -62,20 +58,20 @@ pub data Step : Type 0 where
   goes_on : (lines : List ℕ) (end : ℕ) → Step
 
 -- sentence k is listed: L are all its answers
-unfoldable pub listed : ℕ → ℕ → List (List ℕ) → ListAnswer → Step
-listed k end L (Listed e tuples used) = goes_on (tuple_lines k (take tuples L) ++ ending_line k e tuples used) end
-listed k end L (ListRefused r) = stops (refusal_line k r)
+unfoldable pub listed : ℕ → ℕ → List (List ℕ) → Result Listing Refusal → Step
+listed k end L (Ok l) = goes_on (tuple_lines k (take l.tuples L) ++ ending_line k l.ending l.tuples l.strikings) end
+listed k end L (Err r) = stops (refusal_line k r)
 
 -- allowance 1,000,000, set words for 16 variables and 1,024 rows, answer buffer 4,096 numbers
-unfoldable pub listing : List ℕ → List ℕ → Question → ListAnswer
+unfoldable pub listing : List ℕ → List ℕ → Question → Result Listing Refusal
 listing t labels q = list_answer t labels q 1000000 (replicate 256 0) (replicate 4096 0)
 
-unfoldable pub read : ℕ → Question → List ℕ → Reading → SentenceAnswer → Step
-read k q list g (SentenceRead rows end) =
+unfoldable pub read : ℕ → Question → List ℕ → Reading → Result SentenceReading Refusal → Step
+read k q list g (Ok x) =
     let t = posts_of g in
     let labels = labels_of list g in
-    listed k end (answers (problem t labels q)) (listing t labels q)
-read k q list g (SentenceRefused r) = stops (refusal_line k r)
+    listed k x.end (answers (problem t labels q)) (listing t labels q)
+read k q list g (Err r) = stops (refusal_line k r)
 
 -- sentence k is g, read from the front of the text s, with the list of names, into columns of 1,024 rows
 unfoldable pub step : ℕ → Question → List ℕ → List ℕ → Reading → Step
@@ -101,9 +97,9 @@ unfoldable pub behind : List ℕ → List ℕ
 behind [] = []
 behind (b ∷ s) = pick (eqb b 46) s (behind s)
 
-unfoldable pub Begun : QueryTextAnswer → Said → List ℕ → List ℕ → Type 0
-Begun (TextRead n) q s out = (gs : List Reading) × Prints (asked (query_of q)) (closed (names q)) gs 1 s out
-Begun (TextRefused r) q s out = out ≡ refusal_line 0 r
+unfoldable pub Begun : Result ℕ Refusal → Said → List ℕ → List ℕ → Type 0
+Begun (Ok n) q s out = (gs : List Reading) × Prints (asked (query_of q)) (closed (names q)) gs 1 s out
+Begun (Err r) q s out = out ≡ refusal_line 0 r
 
 -- a run on these bytes prints out; the byte buffer has room for 32 names of 16 bytes
 unfoldable pub IsRun : List ℕ → List ℕ → Type 0

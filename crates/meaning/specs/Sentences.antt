@@ -1,11 +1,11 @@
 -- The bracketed sentence, document 01's chapter of that name: legal sentences, what a sentence yields, the refusals with
 -- their places, and what a reading answers and leaves. Assumes nothing: these are definitions.
-use Rattle.std.specs.Prelude.{◌≡◌, Bool, true, List, [], ◌∷◌, ◌++◌, ℕ, suc, ◌+◌, ◌-◌, ◌≤◌, ◌<◌, length, get_or, take, drop, ltb, leb, eqb}
+use Rattle.std.specs.Prelude.{◌≡◌, Result, Ok, Err, Bool, true, List, [], ◌∷◌, ◌++◌, ℕ, suc, ◌+◌, ◌-◌, ◌≤◌, ◌<◌, length, get_or, take, drop, ltb, leb, eqb}
 use Rattle.meaning.specs.Tests.{Is, ◌&◌, ◌or◌, non}
 use Rattle.meaning.specs.Names.{pick, too_many, label_number}
+use Rattle.meaning.specs.declared.Refusal.{Refusal}
 use Rattle.meaning.specs.declared.Refusal.TheVariants.{Counts, ShortBuffer, Brackets, TooLarge}
-use Rattle.meaning.specs.declared.SentenceAnswer.{SentenceAnswer}
-use Rattle.meaning.specs.declared.SentenceAnswer.TheVariants.{Read, Refused}
+use Rattle.meaning.specs.declared.SentenceReading.{SentenceReading}
 
 -- white space: space, tab, line feed, carriage return
 unfoldable pub white : ℕ → Bool
@@ -162,16 +162,16 @@ IsReading s (wrong_at p) = Is11 s p
 IsReading s (large_at p) = Is12 s p
 
 -- the answer: 4 for the names, then 11 or 12, then 9 where either column is shorter than the rows
-unfoldable pub sentence_says : List ℕ → Reading → ℕ → ℕ → SentenceAnswer
+unfoldable pub sentence_says : List ℕ → Reading → ℕ → ℕ → Result SentenceReading Refusal
 sentence_says text (found x r) posts labels =
     pick (leb (size (tree_of x)) posts & leb (size (tree_of x)) labels)
-    (Read (size (tree_of x)) (length text - length r))
-    (Refused ShortBuffer)
-sentence_says text (wrong_at p) posts labels = Refused (Brackets p)
-sentence_says text (large_at p) posts labels = Refused (TooLarge p)
+    (Ok (record { rows = size (tree_of x); end = length text - length r }))
+    (Err ShortBuffer)
+sentence_says text (wrong_at p) posts labels = Err (Brackets p)
+sentence_says text (large_at p) posts labels = Err (TooLarge p)
 
-unfoldable pub sentence_answer : List ℕ → List ℕ → Reading → ℕ → ℕ → SentenceAnswer
-sentence_answer text list g posts labels = pick (too_many list) (Refused Counts) (sentence_says text g posts labels)
+unfoldable pub sentence_answer : List ℕ → List ℕ → Reading → ℕ → ℕ → Result SentenceReading Refusal
+sentence_answer text list g posts labels = pick (too_many list) (Err Counts) (sentence_says text g posts labels)
 
 -- the sentence's rows in each column
 unfoldable pub posts_of : Reading → List ℕ
@@ -185,12 +185,12 @@ labels_of list (wrong_at p) = []
 labels_of list (large_at p) = []
 
 -- what a column holds afterwards: the rows and then what was there; on a refusal what was there
-unfoldable pub sentence_leaves : SentenceAnswer → List ℕ → List ℕ → List ℕ
-sentence_leaves (Read rows end) new column = new ++ drop rows column
-sentence_leaves (Refused r) new column = column
+unfoldable pub sentence_leaves : Result SentenceReading Refusal → List ℕ → List ℕ → List ℕ
+sentence_leaves (Ok x) new column = new ++ drop x.rows column
+sentence_leaves (Err r) new column = column
 
 -- a reading of the text with a list of names into two columns: its answer, and the columns before and afterwards
-pub record SentenceRead (text list post label : List ℕ) (answer : SentenceAnswer) (post' label' : List ℕ) : Type 0 where
+pub record SentenceRead (text list post label : List ℕ) (answer : Result SentenceReading Refusal) (post' label' : List ℕ) : Type 0 where
   pub reading : Reading
   pub is_reading : IsReading text reading
   pub answered : answer ≡ sentence_answer text list reading (length post) (length label)
@@ -198,6 +198,6 @@ pub record SentenceRead (text list post label : List ℕ) (answer : SentenceAnsw
   pub labels-left : label' ≡ sentence_leaves answer (labels_of list reading) label
 
 -- the part of the text after the sentence, from just behind its last parenthesis; a refusal hands back the whole text
-unfoldable pub sentence_rest : List ℕ → SentenceAnswer → List ℕ
-sentence_rest text (Read rows end) = drop end text
-sentence_rest text (Refused r) = text
+unfoldable pub sentence_rest : List ℕ → Result SentenceReading Refusal → List ℕ
+sentence_rest text (Ok x) = drop x.end text
+sentence_rest text (Err r) = text

@@ -1,25 +1,11 @@
 -- What an answer tells: document 01's number (0 for no refusal), place and values of each case. Assumes nothing: these are definitions.
-use Rattle.std.specs.Prelude.{List, [], ◌∷◌, ℕ}
+use Rattle.std.specs.Prelude.{Bool, true, false, Result, Ok, Err, List, [], ◌∷◌, ℕ}
 use Rattle.meaning.specs.declared.Refusal.{Refusal}
 use Rattle.meaning.specs.declared.Refusal.TheVariants.{Columns, PostNumbers, ThreeRows, Counts, Variables, Axes, EmptyHead, Tuple, ShortBuffer, QueryText, Brackets, TooLarge, HeadVariable}
 use Rattle.meaning.specs.declared.Ending.{Ending}
+use Rattle.meaning.specs.declared.Listing.{Listing}
+use Rattle.meaning.specs.declared.SentenceReading.{SentenceReading}
 use Rattle.meaning.specs.declared.Ending.TheVariants.{Finished, Full, Spent}
-use Rattle.meaning.specs.declared.TableAnswer.{TableAnswer}
-use Rattle.meaning.specs.declared.TableAnswer.TheVariants.{Tree, Refused as TableRefused}
-use Rattle.meaning.specs.declared.QueryAnswer.{QueryAnswer}
-use Rattle.meaning.specs.declared.QueryAnswer.TheVariants.{Accepted, Refused as QueryRefused}
-use Rattle.meaning.specs.declared.PruneAnswer.{PruneAnswer}
-use Rattle.meaning.specs.declared.PruneAnswer.TheVariants.{Pruned, Refused as PruneRefused}
-use Rattle.meaning.specs.declared.YesNoAnswer.{YesNoAnswer}
-use Rattle.meaning.specs.declared.YesNoAnswer.TheVariants.{Yes, No, Refused as YesNoRefused}
-use Rattle.meaning.specs.declared.SearchAnswer.{SearchAnswer}
-use Rattle.meaning.specs.declared.SearchAnswer.TheVariants.{Found, Nothing, Refused as SearchRefused}
-use Rattle.meaning.specs.declared.ListAnswer.{ListAnswer}
-use Rattle.meaning.specs.declared.ListAnswer.TheVariants.{Listed, Refused as ListRefused}
-use Rattle.meaning.specs.declared.QueryTextAnswer.{QueryTextAnswer}
-use Rattle.meaning.specs.declared.QueryTextAnswer.TheVariants.{Read as TextRead, Refused as TextRefused}
-use Rattle.meaning.specs.declared.SentenceAnswer.{SentenceAnswer}
-use Rattle.meaning.specs.declared.SentenceAnswer.TheVariants.{Read as SentenceRead, Refused as SentenceRefused}
 
 -- the number of a refusal, and its place, otherwise 0
 unfoldable pub number : Refusal → ℕ
@@ -69,43 +55,43 @@ refused r = record { number = number r; place = place r; values = [] }
 unfoldable pub given : List ℕ → Told
 given values = record { number = 0; place = 0; values = values }
 
-unfoldable pub told_table : TableAnswer → Told
-told_table Tree = given []
-told_table (TableRefused r) = refused r
+unfoldable pub told_table : Result (Unit {0}) Refusal → Told
+told_table (Ok u) = given []
+told_table (Err r) = refused r
 
 -- the set's number
-unfoldable pub told_query : QueryAnswer → Told
-told_query (Accepted s) = given (s ∷ [])
-told_query (QueryRefused r) = refused r
+unfoldable pub told_query : Result ℕ Refusal → Told
+told_query (Ok s) = given (s ∷ [])
+told_query (Err r) = refused r
 
 -- the strikings
-unfoldable pub told_prune : PruneAnswer → Told
-told_prune (Pruned strikings) = given (strikings ∷ [])
-told_prune (PruneRefused r) = refused r
+unfoldable pub told_prune : Result ℕ Refusal → Told
+told_prune (Ok strikings) = given (strikings ∷ [])
+told_prune (Err r) = refused r
 
 -- 1 for yes, 0 for no
-unfoldable pub told_yes_no : YesNoAnswer → Told
-told_yes_no Yes = given (1 ∷ [])
-told_yes_no No = given (0 ∷ [])
-told_yes_no (YesNoRefused r) = refused r
+unfoldable pub told_yes_no : Result Bool Refusal → Told
+told_yes_no (Ok true) = given (1 ∷ [])
+told_yes_no (Ok false) = given (0 ∷ [])
+told_yes_no (Err r) = refused r
 
 -- 1 for found, 0 for nothing
-unfoldable pub told_search : SearchAnswer → Told
-told_search Found = given (1 ∷ [])
-told_search Nothing = given (0 ∷ [])
-told_search (SearchRefused r) = refused r
+unfoldable pub told_search : Result Bool Refusal → Told
+told_search (Ok true) = given (1 ∷ [])
+told_search (Ok false) = given (0 ∷ [])
+told_search (Err r) = refused r
 
 -- the ending, the number of tuples, the strikings used
-unfoldable pub told_list : ListAnswer → Told
-told_list (Listed e tuples used) = given (ending_number e ∷ tuples ∷ used ∷ [])
-told_list (ListRefused r) = refused r
+unfoldable pub told_list : Result Listing Refusal → Told
+told_list (Ok l) = given (ending_number l.ending ∷ l.tuples ∷ l.strikings ∷ [])
+told_list (Err r) = refused r
 
 -- the bytes of the names
-unfoldable pub told_query_text : QueryTextAnswer → Told
-told_query_text (TextRead bytes) = given (bytes ∷ [])
-told_query_text (TextRefused r) = refused r
+unfoldable pub told_query_text : Result ℕ Refusal → Told
+told_query_text (Ok bytes) = given (bytes ∷ [])
+told_query_text (Err r) = refused r
 
 -- the rows, and where the sentence ends
-unfoldable pub told_sentence : SentenceAnswer → Told
-told_sentence (SentenceRead rows end) = given (rows ∷ end ∷ [])
-told_sentence (SentenceRefused r) = refused r
+unfoldable pub told_sentence : Result SentenceReading Refusal → Told
+told_sentence (Ok x) = given (x.rows ∷ x.end ∷ [])
+told_sentence (Err r) = refused r

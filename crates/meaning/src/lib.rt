@@ -1,6 +1,42 @@
-// The types that every crate shares, in document 01's words.
+// The types that every crate shares, in document 01's words. An entry answers with a `Result`: its value, or the `Refusal`.
 // What the numbers, places and values of the answers are is said in specs/Told.antt.
 #![tactic(auto)]
+
+ghost use Rattle.std.specs.Prelude.{◌≡◌};
+ghost use Rattle.meaning.specs.Told.{number, place};
+ghost use Rattle.meaning.specs.AxisCodes.{IsAxisOf};
+
+// An axis, by its name in document 01.
+#[derive(Clone, Copy, PartialEq, Eq)]
+pub enum Axis {
+    Child,
+    ChildPlus,
+    ChildStar,
+    NextSibling,
+    NextSiblingPlus,
+    NextSiblingStar,
+    Following,
+}
+
+// The axis of a code; a code that is no axis is refused.
+impl TryFrom<u8> for Axis {
+    type Error = Refusal;
+
+    ghost try_from_gives = { IsAxisOf };
+
+    fn try_from(code: u8) -> Result<Self, Refusal> {
+        match code {
+            0 => Ok(Axis::Child),
+            1 => Ok(Axis::ChildPlus),
+            2 => Ok(Axis::ChildStar),
+            3 => Ok(Axis::NextSibling),
+            4 => Ok(Axis::NextSiblingPlus),
+            5 => Ok(Axis::NextSiblingStar),
+            6 => Ok(Axis::Following),
+            _ => Err(Refusal::Variables),
+        }
+    }
+}
 
 // An axis condition: the axis by its code, and two variables, perhaps the same one twice.
 #[derive(Clone, Copy)]
@@ -30,7 +66,7 @@ pub struct Query {
 }
 
 // Why an input is refused; the reasons in the order of document 01's numbers 1 to 13, with their places.
-#[derive(Clone, Copy)]
+#[derive(Clone, Copy, PartialEq, Eq)]
 pub enum Refusal {
     Columns,
     PostNumbers,
@@ -47,45 +83,45 @@ pub enum Refusal {
     HeadVariable,
 }
 
-// The table check.
-#[derive(Clone, Copy)]
-pub enum TableAnswer {
-    Tree,
-    Refused(Refusal),
-}
+impl Refusal {
+    // Document 01's number.
+    #[tactic(auto, unfolding(crate::specs::Told::number))]
+    pub fn number(self) -> u8
+        ensures { result ≡ number self }
+    {
+        match self {
+            Refusal::Columns => 1,
+            Refusal::PostNumbers => 2,
+            Refusal::ThreeRows => 3,
+            Refusal::Counts => 4,
+            Refusal::Variables => 5,
+            Refusal::Axes => 6,
+            Refusal::EmptyHead => 7,
+            Refusal::Tuple => 8,
+            Refusal::ShortBuffer => 9,
+            Refusal::QueryText(_) => 10,
+            Refusal::Brackets(_) => 11,
+            Refusal::TooLarge(_) => 12,
+            Refusal::HeadVariable => 13,
+        }
+    }
 
-// The query check: the number of the axis set.
-#[derive(Clone, Copy)]
-pub enum QueryAnswer {
-    Accepted(u8),
-    Refused(Refusal),
-}
-
-// Pruning: the strikings.
-#[derive(Clone, Copy)]
-pub enum PruneAnswer {
-    Pruned(u64),
-    Refused(Refusal),
-}
-
-// Yes or no.
-#[derive(Clone, Copy)]
-pub enum YesNoAnswer {
-    Yes,
-    No,
-    Refused(Refusal),
-}
-
-// The search after a tuple.
-#[derive(Clone, Copy)]
-pub enum SearchAnswer {
-    Found,
-    Nothing,
-    Refused(Refusal),
+    // The place, 0 for a refusal that has none.
+    #[tactic(auto, unfolding(crate::specs::Told::place))]
+    pub fn place(self) -> usize
+        ensures { result ≡ place self }
+    {
+        match self {
+            Refusal::QueryText(p) => p,
+            Refusal::Brackets(p) => p,
+            Refusal::TooLarge(p) => p,
+            _ => 0,
+        }
+    }
 }
 
 // How a listing ends.
-#[derive(Clone, Copy)]
+#[derive(Clone, Copy, PartialEq, Eq)]
 pub enum Ending {
     Finished,
     Full,
@@ -93,29 +129,23 @@ pub enum Ending {
 }
 
 // A listing: its ending, the number of tuples, the strikings used.
-#[derive(Clone, Copy)]
-pub enum ListAnswer {
-    Listed(Ending, usize, u64),
-    Refused(Refusal),
+#[derive(Clone, Copy, PartialEq, Eq)]
+pub struct Listing {
+    pub ending: Ending,
+    pub tuples: usize,
+    pub strikings: u64,
 }
 
-// The reader of query texts: the bytes of the names, line feeds included. The query stands beside it, because an enum
-// holds no array; on a refusal it is the blank query.
-#[derive(Clone, Copy)]
-pub enum QueryTextAnswer {
-    Read(usize),
-    Refused(Refusal),
-}
-
+// A query text that was read: the bytes of its names, line feeds included, and its query.
 #[derive(Clone, Copy)]
 pub struct QueryReading {
-    pub answer: QueryTextAnswer,
+    pub bytes: usize,
     pub query: Query,
 }
 
-// The reader of bracketed sentences: the rows, and where the sentence ends.
+// A bracketed sentence that was read: its rows, and where it ends in the text.
 #[derive(Clone, Copy)]
-pub enum SentenceAnswer {
-    Read(usize, usize),
-    Refused(Refusal),
+pub struct SentenceReading {
+    pub rows: usize,
+    pub end: usize,
 }

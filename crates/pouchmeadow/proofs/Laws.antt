@@ -22,7 +22,7 @@ use Rattle.meaning.specs.Answers.{is_yes, answers, answers_after}
 use Rattle.meaning.specs.Entries.{Ground, ◌when◌, Verdict, fine, refuse, lowest, table_grounds, query_grounds, query_says, query_answer, needed, prune_grounds, prune_says, prune_answer, unless, prune_leaves, at_front, cleared, yes_no_says, yes_no_answer, yes_no_leaves, is_tuple, search_grounds, search_says, search_answer, search_leaves_sets, first_at_front, search_leaves_found, list_grounds, list_outcome, list_says, list_answer, list_leaves_sets, joined, list_leaves_found}
 use Rattle.meaning.specs.declared.Query.{Query}
 use Rattle.meaning.specs.declared.Condition.{Condition}
-use Rattle.meaning.specs.declared.QueryAnswer.TheVariants.{Refused as QueryRefused}
+use Rattle.std.specs.Prelude.{Err}
 use Rattle.meaning.specs.declared.Refusal.{Refusal}
 use Rattle.meaning.specs.declared.Refusal.TheVariants.{Counts, EmptyHead, Tuple, ShortBuffer}
 use Rattle.theory.specs.Tests.{and_r, not_so, tab-at, tab-length, below_suc}
@@ -84,7 +84,7 @@ unfolding is_counted
 too_many_lem q h = not_so _ (λ k. let l = leb-true (length q.axes) 32 (and_r _ _ (and_r _ _ (and_r _ _ (and_r _ _ k)))) in omega (arith, h, l))
 
 -- so a lent list of 33 records or more is refused 4, whatever they are
-pub many_refused : (t : Terms) (cs : List Condition) → 32 < length cs → query_answer (lent t cs) ≡ QueryRefused Counts
+pub many_refused : (t : Terms) (cs : List Condition) → 32 < length cs → query_answer (lent t cs) ≡ Err Counts
 unfolding query_answer query_says query_grounds lent
 many_refused t cs h = let q = lent t cs in rw (lowest_here Counts (is_counted q) _ (too_many_lem q h)) refl
 

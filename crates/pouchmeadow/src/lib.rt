@@ -10,9 +10,9 @@ ghost use Rattle.pouchmeadow.specs.Lent.{lent};
 ghost use Rattle.pouchmeadow.specs.Gathered.{gathered, placed, few};
 
 use meaning::{
-    Condition, LabelCondition, ListAnswer, PruneAnswer, Query, QueryAnswer, QueryReading,
-    SearchAnswer, SentenceAnswer, TableAnswer, YesNoAnswer,
+    Axis, Condition, LabelCondition, Listing, Query, QueryReading, Refusal, SentenceReading,
 };
+use table::Tree;
 
 // A tree as its caller holds it: the post numbers and the labels of its rows.
 #[derive(Clone, Copy)]
@@ -47,7 +47,7 @@ pub fn terms_of(q: Query) -> Terms
 }
 
 // Is it a tree? Any two columns.
-pub fn check_table<'a>(tree: TreeView<'a>) -> TableAnswer
+pub fn check_table<'a>(tree: TreeView<'a>) -> Result<(), Refusal>
     ensures { ChecksTable tree.entry.post.now tree.entry.label.now result }
 {
     table::check_table(tree.post, tree.label)
@@ -58,19 +58,21 @@ fn axis_of_tree(post: &[u16], code: u8, p: usize, q: usize) -> bool
     requires { Accepted post.now }
     ensures { result ≡ axis_among post.now code p q }
 {
-    if 6 < code {
+    let Ok(axis) = Axis::try_from(code) else {
         return false;
-    }
-    if post.len() <= p {
-        return false;
-    }
-    if post.len() <= q {
+    };
+    if post.len() <= p || post.len() <= q {
         return false;
     }
     let mut parents = [0u16; 1024];
     let mut levels = [0u16; 1024];
     prune::fill_columns(post, &mut parents, &mut levels);
-    table::axis_holds(post, &parents, &levels, code, p, q)
+    let tree = Tree {
+        post,
+        parents: &parents,
+        levels: &levels,
+    };
+    tree.axis_holds(axis, p, q)
 }
 
 // The axis test on any two columns: the table check comes first.
@@ -79,8 +81,8 @@ fn axis_on(post: &[u16], label: &[u16], code: u8, p: usize, q: usize) -> bool
 {
     let t = table::check_table(post, label);
     match t {
-        TableAnswer::Refused(_) => false,
-        TableAnswer::Tree => axis_of_tree(post, code, p, q),
+        Err(_) => false,
+        Ok(()) => axis_of_tree(post, code, p, q),
     }
 }
 
@@ -145,19 +147,16 @@ fn gather(terms: Terms, axes: &[Condition]) -> Query
     ensures { result ≡ gathered terms axes.now (length axes.now) (few (length axes.now)) }
 {
     let n = axes.len();
-    let m = most(n);
     let mut q = empty(terms, n);
-    let mut i: usize = 0;
-    while i < m {
+    for i in 0..most(n) {
         let c = condition_of(axes, i);
         q = put(q, i, c);
-        i += 1;
     }
     q
 }
 
 // Is the query accepted, and which set does it take?
-pub fn check_query(terms: Terms, axes: &[Condition]) -> QueryAnswer
+pub fn check_query(terms: Terms, axes: &[Condition]) -> Result<u8, Refusal>
     ensures { ChecksQuery (lent terms axes.now) result }
 {
     let q = gather(terms, axes);
@@ -170,7 +169,7 @@ pub fn prune<'a>(
     terms: Terms,
     axes: &[Condition],
     sets: &mut [u64],
-) -> PruneAnswer
+) -> Result<u64, Refusal>
     ensures { Prunes tree.entry.post.now tree.entry.label.now (lent terms axes.now) sets.old result sets.new }
 {
     let q = gather(terms, axes);
@@ -183,7 +182,7 @@ pub fn yes_or_no<'a>(
     terms: Terms,
     axes: &[Condition],
     sets: &mut [u64],
-) -> YesNoAnswer
+) -> Result<bool, Refusal>
     ensures { SaysYesOrNo tree.entry.post.now tree.entry.label.now (lent terms axes.now) sets.old result sets.new }
 {
     let q = gather(terms, axes);
@@ -198,7 +197,7 @@ pub fn find_after<'a>(
     tuple: &[u16],
     sets: &mut [u64],
     found: &mut [u16],
-) -> SearchAnswer
+) -> Result<bool, Refusal>
     ensures { FindsAfter tree.entry.post.now tree.entry.label.now (lent terms axes.now) tuple.now sets.old found.old result sets.new found.new }
 {
     let q = gather(terms, axes);
@@ -213,15 +212,15 @@ pub fn list_answers<'a>(
     allowance: u64,
     sets: &mut [u64],
     found: &mut [u16],
-) -> ListAnswer
+) -> Result<Listing, Refusal>
     ensures { Lists tree.entry.post.now tree.entry.label.now (lent terms axes.now) allowance sets.old found.old result sets.new found.new }
 {
     let q = gather(terms, axes);
     answers::list_answers(tree.post, tree.label, q, allowance, sets, found)
 }
 
-// Reads a query text: its query by value, and its label names into a lent buffer. On a refusal the query is blank.
-pub fn read_query(text: &[u8], names: &mut [u8]) -> QueryReading
+// Reads a query text: its query by value, and its label names into a lent buffer. A refusal gives no query.
+pub fn read_query(text: &[u8], names: &mut [u8]) -> Result<QueryReading, Refusal>
     ensures { ReadsQuery text.now names.old result names.new }
 {
     query_text::read_query(text, names)
@@ -233,14 +232,14 @@ pub fn read_sentence(
     names: &[u8],
     post: &mut [u16],
     label: &mut [u16],
-) -> SentenceAnswer
+) -> Result<SentenceReading, Refusal>
     ensures { SentenceRead text.now names.now post.old label.old result post.new label.new }
 {
     brackets::read_sentence(text, names, post, label)
 }
 
 // The part of the text behind the sentence that an answer tells of; the whole text where the answer is a refusal.
-pub fn rest<'a>(text: &'a [u8], answer: SentenceAnswer) -> &'a [u8]
+pub fn rest<'a>(text: &'a [u8], answer: Result<SentenceReading, Refusal>) -> &'a [u8]
     ensures { HandsBack text.now answer result.now }
 {
     brackets::rest(text, answer)

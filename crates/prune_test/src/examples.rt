@@ -1,21 +1,19 @@
 // Table D of document 01 and its queries, worked out by hand.
 use crate::ask::{ask, leaves, pruned};
 use meaning::Query;
-use trials::buffers::{fill64, kept64};
-use trials::cells::{at64, plus, wrong};
+use trials::buffers::{fill, kept};
+use trials::cells::{total, wrong};
 use trials::queries::{alike, axis, carries, free, two};
+use trials::questions::Question;
 use trials::trees::set_chain;
 
 // The rows of D are S NP DT NN VP VBD PP IN NP NN. Label 0 stands for NP (rows 1 and 8), label 1 for NN (rows 3 and 9).
+const POST: [u16; 10] = [9, 2, 0, 1, 8, 3, 7, 4, 6, 5];
+
+const LABEL: [u16; 10] = [65535, 0, 65535, 1, 65535, 65535, 65535, 65535, 0, 1];
+
 fn on_d(q: Query, strikings: u64, first: u64, second: u64) -> u64 {
-    leaves(
-        &[9, 2, 0, 1, 8, 3, 7, 4, 6, 5],
-        &[65535, 0, 65535, 1, 65535, 65535, 65535, 65535, 0, 1],
-        q,
-        strikings,
-        first,
-        second,
-    )
+    leaves(Question::of(&POST, &LABEL, q), strikings, first, second)
 }
 
 // NP(x), Child+(x,y), NN(y): x starts with 1 and 8, y with 3 and 9. Row 3 is below 1 and 9 below 8: nothing is struck.
@@ -34,7 +32,7 @@ pub(crate) fn sentence() -> u64 {
     let x = on_d(a, 0, 258, 520);
     let y = on_d(b, 5, 1008, 2);
     let z = on_d(c, 6, 1022, 339);
-    plus(plus(x, y), z)
+    total(&[x, y, z])
 }
 
 // One axis from x to x; the other variable is free and keeps its ten rows.
@@ -52,7 +50,7 @@ pub(crate) fn loops() -> u64 {
     let e = itself(4, 10, 0);
     let f = itself(5, 0, 1023);
     let g = itself(6, 10, 0);
-    plus(plus(plus(a, b), plus(c, d)), plus(plus(e, f), g))
+    total(&[a, b, c, d, e, f, g])
 }
 
 // No row carries label 7, so y is empty from the start: every row of x lacks a partner.
@@ -63,10 +61,9 @@ fn with_none(code: u8, first: u8, second: u8) -> u64 {
     on_d(q, 10, 0, 0)
 }
 
-fn more_on_d(q: Query, strikings: u64, used: usize) -> u64 {
-    let post = [9u16, 2, 0, 1, 8, 3, 7, 4, 6, 5];
-    let label = [65535u16, 0, 65535, 1, 65535, 65535, 65535, 65535, 0, 1];
-    pruned(&post, &label, q, 20, strikings, used)
+// Four variables.
+fn more_on_d(q: Query, strikings: u64) -> u64 {
+    pruned(Question::of(&POST, &LABEL, q), 20, strikings, 4)
 }
 
 // x0 is empty from the start. Following(x0,x1) comes last of three, so that x1 loses its rows after the other conditions were
@@ -79,7 +76,7 @@ fn along() -> u64 {
     q.axes[0] = axis(6, 2, 3);
     q.axes[1] = axis(6, 1, 2);
     q.axes[2] = axis(6, 0, 1);
-    more_on_d(q, 30, 4)
+    more_on_d(q, 30)
 }
 
 // Child(x,y) with y empty from the start, and apart from them Child(z,u): x loses ten rows; z, which needs a child, five;
@@ -91,7 +88,7 @@ fn apart() -> u64 {
     q.axis_count = 2;
     q.axes[0] = axis(0, 0, 1);
     q.axes[1] = axis(0, 2, 3);
-    more_on_d(q, 16, 4)
+    more_on_d(q, 16)
 }
 
 pub(crate) fn empty() -> u64 {
@@ -99,27 +96,27 @@ pub(crate) fn empty() -> u64 {
     let b = with_none(2, 1, 0);
     let c = with_none(5, 0, 1);
     let d = with_none(6, 1, 0);
-    plus(plus(plus(a, b), plus(c, d)), plus(along(), apart()))
+    total(&[a, b, c, d, along(), apart()])
 }
 
 // 32 conditions on 16 variables: Child+ from x0 to x1 31 times, and then Child+ from x14 to x15. On a chain of 16 rows x0
 // and x14 lose the last row, x1 and x15 the first; the others are free.
 pub(crate) fn sixteen() -> u64 {
-    let mut post = [0u16; 16];
-    set_chain(&mut post, 16);
+    let mut post = [0; 16];
+    set_chain(&mut post);
     let mut q = alike(16, 0, 0, 32, axis(1, 0, 1));
     q.axes[31] = axis(1, 14, 15);
-    let mut s = [0u64; 20];
-    fill64(&mut s);
-    let a = ask(&post, &post, q, &mut s, 16);
-    let low = (at64(&s, 0) == 0x7FFF) & (at64(&s, 1) == 0xFFFE) & (at64(&s, 13) == 0xFFFF);
-    let high = (at64(&s, 14) == 0x7FFF) & (at64(&s, 15) == 0xFFFE);
-    wrong((a == 104) & low & high & kept64(&s, 16))
+    let mut s = [0; 20];
+    fill(&mut s);
+    let told = ask(Question::of(&post, &post, q), &mut s, 16);
+    let low = s[0] == 0x7FFF && s[1] == 0xFFFE && s[13] == 0xFFFF;
+    let high = s[14] == 0x7FFF && s[15] == 0xFFFE;
+    wrong(told == Some(Ok(4)) && low && high && kept(&s, 16))
 }
 
 // 32 label conditions, of which only the last names the second variable: rows 0 and 1 carry label 5.
 pub(crate) fn labels() -> u64 {
     let mut q = alike(2, 0, 32, 0, axis(0, 0, 0));
     q.labels[31] = carries(1, 5);
-    leaves(&[2, 0, 1], &[5, 5, 0], q, 0, 3, 3)
+    leaves(Question::of(&[2, 0, 1], &[5, 5, 0], q), 0, 3, 3)
 }

@@ -40,19 +40,16 @@ fn by_hand() {
 }
 
 // Three cases in turn have the three sets of axes.
-fn drawn(what: &[u8], first: u64, count: usize, rows: usize, least: u64) {
-    let mut axes = [0u8; 16384];
-    let mut sets = [0u8; 512];
-    let bad = random::cases(first, count, rows, least, &mut axes, &mut sets);
-    say(what, bad);
+fn drawn(what: &[u8], first: u64, count: u64, rows: Option<usize>, least: u64) {
+    say(what, random::cases(first, count, rows, least));
 }
 
 fn main() {
     refusals();
     by_hand();
-    drawn(b"1 to 12 rows: ", 1, 4000, 0, 500);
-    drawn(b"63 rows: ", 10000, 30, 63, 3);
-    drawn(b"64 rows: ", 20000, 30, 64, 3);
-    drawn(b"65 rows: ", 30000, 30, 65, 3);
-    drawn(b"128 rows: ", 40000, 30, 128, 3);
+    drawn(b"1 to 12 rows: ", 1, 4000, None, 500);
+    drawn(b"63 rows: ", 10000, 30, Some(63), 3);
+    drawn(b"64 rows: ", 20000, 30, Some(64), 3);
+    drawn(b"65 rows: ", 30000, 30, Some(65), 3);
+    drawn(b"128 rows: ", 40000, 30, Some(128), 3);
 }

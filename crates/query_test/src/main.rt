@@ -3,20 +3,13 @@
 
 mod queries;
 
-fn say(n: u64) {
-    io::print_decimal(1, n);
+fn say_right(right: bool) {
+    io::print_decimal(1, u64::from(!right));
     io::write_all(1, b"\n");
 }
 
-fn say_right(right: bool) {
-    if right {
-        say(0);
-    } else {
-        say(1);
-    }
-}
-
-// The set of each axis alone, and the answer for each beside Child+.
+// The set of each axis alone, and the answer for each beside Child+: with Following and with Child refusal 6, with Child*
+// set 1, with no axis refusal 5.
 fn axes() {
     say_right(queries::alone(0, 3));
     say_right(queries::alone(1, 1));
@@ -25,10 +18,10 @@ fn axes() {
     say_right(queries::alone(4, 3));
     say_right(queries::alone(5, 3));
     say_right(queries::alone(6, 2));
-    say_right(queries::together(6, 60));
-    say_right(queries::together(2, 1));
-    say_right(queries::together(0, 60));
-    say_right(queries::together(7, 50));
+    say_right(queries::together_of_two_sets(6));
+    say_right(queries::together_of_set(2, 1));
+    say_right(queries::together_of_two_sets(0));
+    say_right(queries::together_with_no_axis(7));
 }
 
 fn main() {

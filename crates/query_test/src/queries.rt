@@ -1,125 +1,119 @@
 // The query check on both sides of each limit.
-use meaning::{Condition, LabelCondition, Query, QueryAnswer, Refusal};
+use meaning::{Condition, LabelCondition, Query, Refusal};
+use query::check_query;
 
-// The answer as a number: the set, or 10 times the number of the refusal.
-fn number(a: QueryAnswer) -> u8 {
-    match a {
-        QueryAnswer::Accepted(s) => s,
-        QueryAnswer::Refused(r) => match r {
-            Refusal::Counts => 40,
-            Refusal::Variables => 50,
-            Refusal::Axes => 60,
-            _ => 255,
-        },
+fn axis(code: u8, first: u8, second: u8) -> Condition {
+    Condition {
+        code,
+        first,
+        second,
     }
 }
 
-// v variables, h head variables 0, 1, .., l label conditions, a axis conditions, all with one code and two variables.
-fn query(v: usize, h: usize, l: usize, a: usize, code: u8, first: u8, second: u8) -> Query {
+// v variables, h head variables 0, 1, .., l label conditions on the first variable of c, a axis conditions like c.
+fn query(v: usize, h: usize, l: usize, a: usize, c: Condition) -> Query {
     Query {
         variables: v,
         head_count: h,
         head: [0, 1, 2, 3, 4, 5, 6, 7],
         label_count: l,
         labels: [LabelCondition {
-            variable: first,
+            variable: c.first,
             label: 5,
         }; 32],
         axis_count: a,
-        axes: [Condition {
-            code: code,
-            first: first,
-            second: second,
-        }; 32],
+        axes: [c; 32],
     }
 }
 
-fn asked(v: usize, h: usize, l: usize, a: usize, code: u8, first: u8, second: u8) -> u8 {
-    number(query::check_query(query(v, h, l, a, code, first, second)))
+// Accepted, with the axes of this set.
+fn is_set(q: Query, set: u8) -> bool {
+    check_query(q) == Ok(set)
 }
 
-fn axis(code: u8, first: u8, second: u8) -> Condition {
-    Condition {
-        code: code,
-        first: first,
-        second: second,
-    }
+// Refused for variables or conditions that are too many, or too few.
+fn miscounts(q: Query) -> bool {
+    check_query(q) == Err(Refusal::Counts)
+}
+
+// Refused for a code or a variable that there is not.
+fn misnames(q: Query) -> bool {
+    check_query(q) == Err(Refusal::Variables)
 }
 
 // Refusal 4: variables at their limits and past them.
 pub(crate) fn variables() -> bool {
-    let none = asked(0, 0, 0, 0, 1, 0, 0) == 40;
-    let one = asked(1, 0, 0, 0, 1, 0, 0) == 1;
-    let most = asked(16, 8, 32, 32, 1, 15, 0) == 1;
-    let more = asked(17, 0, 0, 0, 1, 0, 0) == 40;
-    let far = asked(18446744073709551615, 0, 0, 0, 9, 0, 0) == 40;
-    none & one & most & more & far
+    let c = axis(1, 0, 0);
+    miscounts(query(0, 0, 0, 0, c))
+        && is_set(query(1, 0, 0, 0, c), 1)
+        && is_set(query(16, 8, 32, 32, axis(1, 15, 0)), 1)
+        && miscounts(query(17, 0, 0, 0, c))
+        && miscounts(query(usize::MAX, 0, 0, 0, axis(9, 0, 0)))
 }
 
 // Refusal 4: head and conditions past their limits, and past their arrays.
 pub(crate) fn counts() -> bool {
-    let head = asked(16, 9, 0, 0, 1, 0, 0) == 40;
-    let labels = asked(16, 0, 33, 0, 1, 0, 0) == 40;
-    let axes = asked(16, 0, 0, 33, 1, 0, 0) == 40;
-    let far = asked(
-        16,
-        18446744073709551615,
-        18446744073709551615,
-        18446744073709551615,
-        9,
-        0,
-        0,
-    ) == 40;
-    head & labels & axes & far
+    let c = axis(1, 0, 0);
+    miscounts(query(16, 9, 0, 0, c))
+        && miscounts(query(16, 0, 33, 0, c))
+        && miscounts(query(16, 0, 0, 33, c))
+        && miscounts(query(16, usize::MAX, usize::MAX, usize::MAX, axis(9, 0, 0)))
 }
 
 // Refusal 5: codes and variables at their limits and past them.
 pub(crate) fn names() -> bool {
-    let last = asked(2, 0, 0, 1, 6, 1, 0) == 2;
-    let code = asked(2, 0, 0, 1, 7, 1, 0) == 50;
-    let far = asked(2, 0, 0, 1, 255, 1, 1) == 50;
-    let first = asked(2, 0, 0, 1, 1, 2, 0) == 50;
-    let second = asked(2, 0, 0, 1, 1, 0, 2) == 50;
-    last & code & far & first & second
+    is_set(query(2, 0, 0, 1, axis(6, 1, 0)), 2)
+        && misnames(query(2, 0, 0, 1, axis(7, 1, 0)))
+        && misnames(query(2, 0, 0, 1, axis(255, 1, 1)))
+        && misnames(query(2, 0, 0, 1, axis(1, 2, 0)))
+        && misnames(query(2, 0, 0, 1, axis(1, 0, 2)))
 }
 
 // A variable twice in a condition is fine, and what stands past a count does not count.
 pub(crate) fn labels() -> bool {
-    let twice = asked(2, 0, 0, 1, 1, 1, 1) == 1;
-    let last = asked(2, 0, 1, 0, 9, 1, 0) == 1;
-    let past = asked(2, 0, 1, 0, 9, 2, 0) == 50;
-    let unread = asked(2, 0, 0, 0, 255, 255, 255) == 1;
-    twice & last & past & unread
+    is_set(query(2, 0, 0, 1, axis(1, 1, 1)), 1)
+        && is_set(query(2, 0, 1, 0, axis(9, 1, 0)), 1)
+        && misnames(query(2, 0, 1, 0, axis(9, 2, 0)))
+        && is_set(query(2, 0, 0, 0, axis(255, 255, 255)), 1)
 }
 
 // Refusal 5: a head variable too large, and one twice.
 pub(crate) fn heads() -> bool {
-    let last = asked(8, 8, 0, 0, 0, 0, 0) == 1;
-    let past = asked(7, 8, 0, 0, 0, 0, 0) == 50;
-    let mut q = query(8, 8, 0, 0, 0, 0, 0);
-    q.head[7] = 0;
-    let twice = number(query::check_query(q)) == 50;
-    last & past & twice
+    let c = axis(0, 0, 0);
+    let mut twice = query(8, 8, 0, 0, c);
+    twice.head[7] = 0;
+    is_set(query(8, 8, 0, 0, c), 1) && misnames(query(7, 8, 0, 0, c)) && misnames(twice)
 }
 
 // The same variable at two places next to each other, and at two places of which one is not of the head.
 pub(crate) fn heads_next() -> bool {
-    let mut q = query(8, 2, 0, 0, 0, 0, 0);
-    q.head[1] = 0;
-    let twice = number(query::check_query(q)) == 50;
-    q.head_count = 1;
-    let once = number(query::check_query(q)) == 1;
-    twice & once
+    let mut twice = query(8, 2, 0, 0, axis(0, 0, 0));
+    twice.head[1] = 0;
+    let mut once = twice;
+    once.head_count = 1;
+    misnames(twice) && is_set(once, 1)
 }
 
 // The set of each axis alone.
 pub(crate) fn alone(code: u8, set: u8) -> bool {
-    asked(2, 0, 0, 32, code, 0, 1) == set
+    is_set(query(2, 0, 0, 32, axis(code, 0, 1)), set)
 }
 
-// Child+ with another axis: with Following and with Child 6, with Child* set 1, with no axis 5.
-pub(crate) fn together(code: u8, answer: u8) -> bool {
-    let mut q = query(2, 0, 0, 2, 1, 0, 1);
+// Child+ with another axis.
+fn together(code: u8) -> Query {
+    let mut q = query(2, 0, 0, 2, axis(1, 0, 1));
     q.axes[1] = axis(code, 1, 0);
-    number(query::check_query(q)) == answer
+    q
+}
+
+pub(crate) fn together_of_set(code: u8, set: u8) -> bool {
+    is_set(together(code), set)
+}
+
+pub(crate) fn together_of_two_sets(code: u8) -> bool {
+    check_query(together(code)) == Err(Refusal::Axes)
+}
+
+pub(crate) fn together_with_no_axis(code: u8) -> bool {
+    misnames(together(code))
 }

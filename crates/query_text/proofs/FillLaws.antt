@@ -2,24 +2,21 @@
 use mathlib.Core.Path.{◌≡◌, refl, sym, ap, ◌∙◌}
 use mathlib.Core.Bool.{Bool, true, false}
 use mathlib.Core.List.{List, [], ◌∷◌, ◌++◌, append_assoc, append-nil, map}
-use Prim.Native.Nat.{ℕ, zero, suc, ◌+◌, ◌-◌, ◌≤◌, ◌<◌}
+use Prim.Native.Nat.{ℕ, zero, suc, ◌+◌, ◌≤◌, ◌<◌}
 use native.Mathlib.Nat.{not-suc-le-zero}
 use native.Mathlib.Omega.{arith}
 use lib.Dec.{ltb}
-use lib.ListN.{length, get_or, drop, set, length-append}
+use lib.ListN.{length, drop, set, length-append}
 use borrow.Author.Tests.{lt-ltb, le-ltb, ltb-true, ltb-false}
-use Rattle.meaning.specs.Texts.{pick, among}
-use Rattle.meaning.specs.QueryTexts.{in_word, words, place_in, has, is_variable, with_word, phrases, said, Said, axis-names, pad, made, blank_query, no_label, no-condition, label_of, axis_conditions_of, labels_in, axes_in}
+use Rattle.meaning.specs.Texts.{pick}
+use Rattle.meaning.specs.QueryTexts.{words, place_in, has, is_variable, with_word, phrases, said, Said, axis-names, pad, made, blank_query, no_label, no-condition, label_of, axis_conditions_of, labels_in, axes_in}
 use Rattle.meaning.specs.declared.Condition.{Condition}
 use Rattle.meaning.specs.declared.LabelCondition.{LabelCondition}
 use Rattle.meaning.specs.declared.Query.{Query}
-use Rattle.query_text.specs.Tables.{part}
-use Rattle.query_text.specs.Filling.{capped, shown, filled, with_head, with_label, with_axis, filling, variable_for, fill_word, fill_words, numbered_as}
+use Rattle.query_text.specs.Filling.{capped, shown, filled, with_head, with_label, with_axis, filling, variable_for, fill_word, fill_words}
 use Rattle.query_text.specs.declared.filling.Item.{Item}
 use Rattle.query_text.specs.declared.filling.Item.TheVariants.{Head, Label, Axis, Second, Done}
 use Rattle.query_text.specs.declared.filling.Filling.{Filling}
-use Rattle.query_text.proofs.WordLaws.{words_none}
-use Rattle.query_text.proofs.TableLaws.{Starts, Ends, word_on}
 
 -- 1. An array with one entry more.
 pad_push : {A : Type 0} (n : ℕ) (z : A) (l : List A) (v : A) → length l < n → set (pad n z l) (length l) v ≡ pad n z (l ++ (v ∷ []))
@@ -224,47 +221,27 @@ module _ (m : ℕ) (vs ns : List (List ℕ)) where
       go false false e h = label-on w ws e h hs ls cs i
 
 -- 4. A turn, and the whole.
-pub fill_variable : (vs ns : List (List ℕ)) (f : Filling) (w : List ℕ) (v : ℕ) (r : Filling) → is_variable w ≡ true → v ≡ place_in vs w → r ≡ variable_for f.query f.item v → r ≡ fill_word vs ns f w
+pub fill_variable : (vs ns : List (List ℕ)) (f : Filling) (w : List ℕ) → is_variable w ≡ true → variable_for f.query f.item (place_in vs w) ≡ fill_word vs ns f w
 unfolding fill_word pick
-fill_variable vs ns f w v r e p h = rw e (h ∙ ap (variable_for f.query f.item) p)
+fill_variable vs ns f w e = rw e
 
-pub fill_axis : (vs ns : List (List ℕ)) (f : Filling) (w : List ℕ) (c : ℕ) → is_variable w ≡ false → has axis-names w ≡ true → c ≡ place_in axis-names w → filling f.query (Axis c) ≡ fill_word vs ns f w
+pub fill_axis : (vs ns : List (List ℕ)) (f : Filling) (w : List ℕ) → is_variable w ≡ false → has axis-names w ≡ true → filling f.query (Axis (place_in axis-names w)) ≡ fill_word vs ns f w
 unfolding fill_word pick
-fill_axis vs ns f w c e d p = rw (e, d) (ap (λ (k : ℕ). filling f.query (Axis k)) p)
+fill_axis vs ns f w e d = rw (e, d)
 
-pub fill_label : (vs ns : List (List ℕ)) (f : Filling) (w : List ℕ) (n : ℕ) → is_variable w ≡ false → has axis-names w ≡ false → n ≡ place_in ns w → filling f.query (Label n) ≡ fill_word vs ns f w
+pub fill_label : (vs ns : List (List ℕ)) (f : Filling) (w : List ℕ) → is_variable w ≡ false → has axis-names w ≡ false → filling f.query (Label (place_in ns w)) ≡ fill_word vs ns f w
 unfolding fill_word pick
-fill_label vs ns f w n e d p = rw (e, d) (ap (λ (k : ℕ). filling f.query (Label k)) p)
+fill_label vs ns f w e d = rw (e, d)
 
-pub record Fills (vs ns : List (List ℕ)) (s : List ℕ) (f : Filling) (at : ℕ) : Type 0 where
-  pub goes : fill_words vs ns f (words [] (drop at s)) ≡ fill_words vs ns (filling blank_query Head) (words [] (drop 1 s))
-  pub starts : at < length s → among in_word (get_or s at 0) ≡ true
-
-pub fills_start : (vs ns : List (List ℕ)) (s : List ℕ) (q : Query) (i : ℕ) → q ≡ blank_query → Starts s 1 i → Fills vs ns s (filling q Head) i
-fills_start vs ns s q i e h = record {
-  goes = ap (λ (x : Query). fill_words vs ns (filling x Head) (words [] (drop i s))) e ∙ ap (fill_words vs ns (filling blank_query Head)) (sym h.1);
-  starts = h.2;
-}
-
-words_cons : (vs ns : List (List ℕ)) (f : Filling) (w : List ℕ) (ws : List (List ℕ)) → fill_words vs ns f (w ∷ ws) ≡ fill_words vs ns (fill_word vs ns f w) ws
+pub words_cons : (vs ns : List (List ℕ)) (f : Filling) (w : List ℕ) (ws : List (List ℕ)) → fill_words vs ns f (w ∷ ws) ≡ fill_words vs ns (fill_word vs ns f w) ws
 unfolding fill_words
 words_cons vs ns f w ws = refl
-
-pub fills_next : (vs ns : List (List ℕ)) (s : List ℕ) (f r : Filling) (at e i : ℕ) → Fills vs ns s f at → at < length s → Ends s at e → r ≡ fill_word vs ns f (part s at (e - at)) → Starts s e i → Fills vs ns s r i
-fills_next vs ns s f r at e i g l h p k = record {
-  goes = ap (λ (x : Filling). fill_words vs ns x (words [] (drop i s))) p
-      ∙ sym (words_cons vs ns f (part s at (e - at)) (words [] (drop i s)))
-      ∙ ap (fill_words vs ns f) (sym (word_on s at e i l g.starts h k)) ∙ g.goes;
-  starts = k.2;
-}
 
 blank-shown : blank_query ≡ shown 0 [] [] []
 unfolding blank_query made shown capped pick
 blank-shown = refl
 
-pub fills_end : (n : ℕ) (vs ns : List (List ℕ)) (s : List ℕ) (f : Filling) (at : ℕ) → Fills vs ns s f at → length s ≤ at → numbered_as n f.query ≡ filled n vs ns (said s)
-unfolding fill_words filled said shown ends_as heads_for labels_for axes_for
-fills_end n vs ns s f at g l =
-    ap (λ (x : Filling). numbered_as n x.query)
-    (ap (fill_words vs ns f) (sym (words_none s at l)) ∙ g.goes ∙ ap (λ (q : Query). fill_words vs ns (filling q Head) (words [] (drop 1 s))) blank-shown)
-    ∙ ap (numbered_as n) (all 0 vs ns (words [] (drop 1 s)) [] [] [] Head)
+-- the query of all words, but for the number of its variables
+pub whole_query : (vs ns : List (List ℕ)) (s : List ℕ) → (fill_words vs ns (filling blank_query Head) (words [] (drop 1 s))).query ≡ filled 0 vs ns (said s)
+unfolding filled said ends_as heads_for labels_for axes_for
+whole_query vs ns s = ap (λ (q : Query). (fill_words vs ns (filling q Head) (words [] (drop 1 s))).query) blank-shown ∙ all 0 vs ns (words [] (drop 1 s)) [] [] [] Head

@@ -6,10 +6,14 @@ pub mod Moves
 pub mod Running
 pub mod SoFar
 pub mod Promises
-pub mod Classes
+pub mod ByteLaws
+pub mod Steps
 pub mod WordLaws
+pub mod PlaceOf
 pub mod TableLaws
+pub mod PutLaws
 pub mod FillLaws
+pub mod ReadLaws
 pub mod JudgeLaws
 pub mod NameLaws
 pub mod AnswerLaws

@@ -9,10 +9,13 @@ use lib.ListN.{length, get_or, drop}
 use Rattle.meaning.specs.Texts.{pick, Place, legal, bad}
 use Rattle.meaning.specs.Places.{next, place}
 use Rattle.meaning.specs.QueryTexts.{query}
-use Rattle.query_text.specs.Machine.{step, stopped, finished}
+use Rattle.std.specs.Prelude.{Ok, Err}
+use Rattle.meaning.specs.declared.Refusal.TheVariants.{QueryText}
+use Rattle.query_text.specs.Machine.{step, stopped, finished, found}
+use Rattle.query_text.proofs.Steps.{not_stop, not_end}
 use Rattle.query_text.proofs.Moves.{run, machine_is}
 use Rattle.query_text.specs.declared.machine.Now.{Now}
-use Rattle.query_text.specs.declared.machine.Now.TheVariants.{Start}
+use Rattle.query_text.specs.declared.machine.Now.TheVariants.{Start, Stop, End}
 
 -- a place, counted from i bytes before
 unfoldable pub on : ℕ → Place → Place
@@ -52,17 +55,17 @@ turn : (s : List ℕ) (q : Now) (i : ℕ) → i < length s → run q (drop i s) 
 unfolding run
 turn s q i l = ap (run q) (drop-one s i l)
 
-pub at_stop : (s : List ℕ) (q r : Now) (i : ℕ) (z : Bool) → At s q i → i < length s → r ≡ step q (get_or s i 0) → z ≡ stopped r → z ≡ true → bad i ≡ place query s
-unfolding on pick
-at_stop s q r i z a l e d t =
-    let k : stopped (step q (get_or s i 0)) ≡ true = ap stopped (sym e) ∙ sym d ∙ t in
+pub at_stop : (s : List ℕ) (q r : Now) (i : ℕ) → At s q i → i < length s → r ≡ step q (get_or s i 0) → r ≡ Stop → Err (QueryText i) ≡ found (place query s)
+unfolding on pick stopped found
+at_stop s q r i a l e t =
+    let k : stopped (step q (get_or s i 0)) ≡ true = ap stopped (sym e ∙ t) in
     let n : i ≡ i + 0 = omega arith in
-    ap bad n ∙ sym (a ∙ ap (on i) (turn s q i l ∙ ap (λ (z : Bool). pick z (bad 0) (next (run (step q (get_or s i 0)) (drop (suc i) s)))) k))
+    ap (λ (p : ℕ). Err (QueryText p)) n ∙ sym (ap found (a ∙ ap (on i) (turn s q i l ∙ ap (λ (z : Bool). pick z (bad 0) (next (run (step q (get_or s i 0)) (drop (suc i) s)))) k)))
 
-pub at_next : (s : List ℕ) (q r : Now) (i : ℕ) (z : Bool) → At s q i → i < length s → r ≡ step q (get_or s i 0) → z ≡ stopped r → z ≡ false → At s r (i + 1)
+pub at_next : (s : List ℕ) (q r : Now) (i : ℕ) → At s q i → i < length s → r ≡ step q (get_or s i 0) → (r ≡ Stop → ⊥) → At s r (i + 1)
 unfolding pick
-at_next s q r i z a l e d t =
-    let k : stopped (step q (get_or s i 0)) ≡ false = ap stopped (sym e) ∙ sym d ∙ t in
+at_next s q r i a l e t =
+    let k : stopped (step q (get_or s i 0)) ≡ false = ap stopped (sym e) ∙ sym (not_stop r t) in
     let n : suc i ≡ i + 1 = omega arith in
     a ∙ ap (on i) (turn s q i l ∙ ap (λ (z : Bool). pick z (bad 0) (next (run (step q (get_or s i 0)) (drop (suc i) s)))) k)
     ∙ on-next i _ ∙ ap (λ (x : Now). on (i + 1) (run x (drop (suc i) s))) (sym e) ∙ ap (λ (j : ℕ). on (i + 1) (run r (drop j s))) n
@@ -71,12 +74,12 @@ end_is : (s : List ℕ) (q : Now) (i : ℕ) → At s q i → length s ≤ i → 
 unfolding run
 end_is s q i a l = a ∙ ap (λ (t : List ℕ). on i (run q t)) (drop_all s i l)
 
-pub at-legal : (s : List ℕ) (q : Now) (i : ℕ) (z : Bool) → At s q i → length s ≤ i → z ≡ finished q → z ≡ true → legal ≡ place query s
-unfolding on pick
-at-legal s q i z a l e t = sym (end_is s q i a l ∙ ap (λ (z : Bool). on i (pick z legal (bad 0))) (sym e ∙ t))
+pub at_legal : (s : List ℕ) (q : Now) (i : ℕ) → At s q i → length s ≤ i → q ≡ End → Ok tt ≡ found (place query s)
+unfolding on pick finished found
+at_legal s q i a l e = sym (ap found (end_is s q i a l ∙ ap (λ (r : Now). on i (pick (finished r) legal (bad 0))) e))
 
-pub at-early : (s : List ℕ) (q : Now) (i : ℕ) (z : Bool) → At s q i → length s ≤ i → z ≡ finished q → z ≡ false → bad i ≡ place query s
-unfolding on pick
-at-early s q i z a l e t =
-    let n : i ≡ i + 0 = omega arith in
-    ap bad n ∙ sym (end_is s q i a l ∙ ap (λ (z : Bool). on i (pick z legal (bad 0))) (sym e ∙ t))
+pub at_early : (s : List ℕ) (q : Now) (i : ℕ) → At s q i → length s ≤ i → i ≤ length s → (q ≡ End → ⊥) → Err (QueryText (length s)) ≡ found (place query s)
+unfolding on pick found
+at_early s q i a l m t =
+    let n : length s ≡ i + 0 = omega arith in
+    ap (λ (p : ℕ). Err (QueryText p)) n ∙ sym (ap found (end_is s q i a l ∙ ap (λ (z : Bool). on i (pick z legal (bad 0))) (sym (not_end q t))))

@@ -1,5 +1,6 @@
 -- The query of a text, filled word by word. Assumes nothing: these are definitions.
-use Rattle.std.specs.Prelude.{List, [], ◌∷◌, map, ℕ, suc, ◌+◌, ltb, length, set}
+use Rattle.std.specs.Prelude.{Bool, ◌≤◌, List, [], ◌∷◌, map, ℕ, suc, ◌+◌, ltb, length, set}
+use Rattle.meaning.specs.Tests.{◌or◌}
 use Rattle.meaning.specs.Texts.{pick}
 use Rattle.meaning.specs.QueryTexts.{is_variable, has, place_in, axis-names, pad, no_label, no-condition, Said, labels_in, axes_in}
 use Rattle.meaning.specs.declared.Condition.{Condition}
@@ -8,6 +9,15 @@ use Rattle.meaning.specs.declared.Query.{Query}
 use Rattle.query_text.specs.declared.filling.Item.{Item}
 use Rattle.query_text.specs.declared.filling.Item.TheVariants.{Head, Label, Axis, Second, Done}
 use Rattle.query_text.specs.declared.filling.Filling.{Filling}
+
+-- the counts are within their limits, or one is past its own
+pub record Within (q : Query) : Type 0 where
+  pub heads : q.head_count ≤ 8
+  pub labels : q.label_count ≤ 32
+  pub axes : q.axis_count ≤ 32
+
+unfoldable pub over_parts : Query → Bool
+over_parts q = ltb 8 q.head_count or ltb 32 q.label_count or ltb 32 q.axis_count
 
 -- a count, which stays at one past its limit
 unfoldable pub capped : {A : Type 0} → ℕ → List A → ℕ
@@ -29,7 +39,7 @@ shown n hs ls cs = record {
 unfoldable pub filled : ℕ → List (List ℕ) → List (List ℕ) → Said → Query
 filled n vs ns q = shown n (map (place_in vs) q.«head») (labels_in vs ns q.conditions) (axes_in vs q.conditions)
 
-abbrev headed : Query → ℕ → List ℕ → Query
+abbrev pub headed : Query → ℕ → List ℕ → Query
 headed q n h = record {
   variables = q.variables;
   head_count = n;
@@ -40,7 +50,7 @@ headed q n h = record {
   axes = q.axes;
 }
 
-abbrev labelled : Query → ℕ → List LabelCondition → Query
+abbrev pub labelled : Query → ℕ → List LabelCondition → Query
 labelled q n l = record {
   variables = q.variables;
   head_count = q.head_count;
@@ -51,7 +61,7 @@ labelled q n l = record {
   axes = q.axes;
 }
 
-abbrev related : Query → ℕ → List Condition → Query
+abbrev pub related : Query → ℕ → List Condition → Query
 related q n c = record {
   variables = q.variables;
   head_count = q.head_count;

@@ -2,4 +2,3 @@ pub mod Machine
 pub mod Tables
 pub mod Filling
 pub mod Room
-pub mod Refused

@@ -1,11 +1,11 @@
 -- A machine that reads query texts byte by byte. Assumes nothing: these are definitions.
-use Rattle.std.specs.Prelude.{Bool, true, false, List, [], ◌∷◌, ℕ, zero, suc, ◌-◌, eqb, ltb}
+use Rattle.std.specs.Prelude.{Result, Ok, Err, Bool, true, false, List, [], ◌∷◌, ℕ, zero, suc, ◌-◌, eqb, ltb}
 use Rattle.meaning.specs.Tests.{◌&◌}
 use Rattle.meaning.specs.Axes.{bytes}
 use Rattle.meaning.specs.Texts.{pick, among, Place, legal, bad}
 use Rattle.meaning.specs.QueryTexts.{blank, lower, upper, in_variable, in_label}
-use Rattle.query_text.specs.declared.machine.Verdict.{Verdict}
-use Rattle.query_text.specs.declared.machine.Verdict.TheVariants.{Legal, Bad}
+use Rattle.meaning.specs.declared.Refusal.{Refusal}
+use Rattle.meaning.specs.declared.Refusal.TheVariants.{QueryText}
 use Rattle.query_text.specs.declared.machine.Now.{Now}
 use Rattle.query_text.specs.declared.machine.Now.TheVariants.{Stop, Start, Asked, Opened, InHead, HeadComma, Closed, Less, Wants, NameC, NameN, NameF, Child, Sibling, Following, Signs, Signed, AxisOpened, From, Label, LastOpened, Last, Done, End}
 
@@ -101,7 +101,7 @@ finished (Last n) = false
 finished Done = false
 finished End = true
 
--- what the first pass finds, as the code has it
-unfoldable pub found : Place → Verdict
-found legal = Legal
-found (bad p) = Bad p
+-- what the first pass finds: whether the text is legal
+unfoldable pub found : Place → Result (Unit {0}) Refusal
+found legal = Ok tt
+found (bad p) = Err (QueryText p)

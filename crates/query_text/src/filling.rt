@@ -1,16 +1,16 @@
 // The query of a text, filled word by word.
-ghost use Rattle.std.specs.Prelude.{◌≡◌, ◌≤◌};
-ghost use Rattle.meaning.specs.QueryTexts.{blank_query, said};
-ghost use Rattle.query_text.specs.Tables.{spelled};
-ghost use Rattle.query_text.specs.Filling.{with_head, with_label, with_axis, variable_for, numbered_as, filled};
+ghost use Rattle.std.specs.Prelude.{◌≡◌, true, false, ◌≤◌, MatchResult};
+ghost use Rattle.meaning.specs.declared.Refusal.TheVariants.{Counts};
+ghost use Rattle.meaning.specs.QueryTexts.{blank_query, said, outside, query_of, names};
+ghost use Rattle.query_text.specs.Filling.{variable_for, Within, over_parts};
+ghost use Rattle.query_text.specs.Tables.{texts};
 
-use crate::letters::is_lower;
-use crate::tables::{Seen, number_of};
-use crate::words::{axis_code, byte_of, word_end, word_start};
-use meaning::{Condition, LabelCondition, Query};
+use crate::tables::{Seen, push};
+use crate::words::{axis_code, is_variable, next_word};
+use meaning::{Condition, LabelCondition, Query, Refusal};
 
 // What the next variable is for: the head, a label's condition, an axis (the first variable, the second), or nothing more.
-#[derive(Drop)]
+#[derive(Clone, Copy)]
 pub(crate) enum Item {
     Head,
     Label(u16),
@@ -19,14 +19,52 @@ pub(crate) enum Item {
     Done,
 }
 
-// A count past its limit stays one above it.
+// The query so far, and what its next variable is for.
 #[derive(Drop)]
 pub(crate) struct Filling {
     pub query: Query,
     pub item: Item,
 }
 
-pub(crate) fn blank_query() -> Query
+impl Filling {
+    // Puts variable v where it is wanted. A count past its limit refuses the text.
+    fn put(&mut self, v: u8) -> Result<(), Refusal>
+        requires { Within self.old.query }
+        ensures { MatchResult result
+            (λ _. (self.new ≡ variable_for self.old.query self.old.item v) × Within self.new.query)
+            (λ why. (why ≡ Counts) × (over_parts (variable_for self.old.query self.old.item v).query ≡ true)) }
+    {
+        let q = &mut self.query;
+        match self.item {
+            Item::Head => q.head_count = push(&mut q.head, q.head_count, v)?,
+            Item::Label(label) => {
+                q.label_count = push(
+                    &mut q.labels,
+                    q.label_count,
+                    LabelCondition { variable: v, label },
+                )?;
+                self.item = Item::Done;
+            }
+            Item::Axis(code) => self.item = Item::Second(code, v),
+            Item::Second(code, first) => {
+                q.axis_count = push(
+                    &mut q.axes,
+                    q.axis_count,
+                    Condition {
+                        code,
+                        first,
+                        second: v,
+                    },
+                )?;
+                self.item = Item::Done;
+            }
+            Item::Done => {}
+        }
+        Ok(())
+    }
+}
+
+fn blank_query() -> Query
     ensures { result ≡ blank_query }
 {
     Query {
@@ -47,114 +85,41 @@ pub(crate) fn blank_query() -> Query
     }
 }
 
-fn with_head(query: Query, v: u8) -> Query
-    ensures { result ≡ with_head query v }
-{
-    let mut q = query;
-    let n = q.head_count;
-    if n < 8 {
-        q.head[n] = v;
-        q.head_count = n + 1;
-        return q;
-    }
-    q.head_count = 9;
-    q
+// The query of a text and its label names.
+#[derive(Drop)]
+pub(crate) struct Words<'a> {
+    pub query: Query,
+    pub names: Seen<'a>,
 }
 
-fn with_label(query: Query, v: u8, label: u16) -> Query
-    ensures { result ≡ with_label query v label }
+// The words behind the Q: a variable goes where the last name wants it, a name says what comes next.
+pub(crate) fn read_words(text: &[u8]) -> Result<Words<'_>, Refusal>
+    ensures { MatchResult result
+        (λ r. (outside (said text.now) ≡ false) × (r.query ≡ query_of (said text.now)) × (r.names.count ≤ 32) × (texts r.names ≡ names (said text.now)) × Within r.query)
+        (λ why. (why ≡ Counts) × (outside (said text.now) ≡ true)) }
 {
-    let mut q = query;
-    let n = q.label_count;
-    if n < 32 {
-        q.labels[n] = LabelCondition { variable: v, label };
-        q.label_count = n + 1;
-        return q;
-    }
-    q.label_count = 33;
-    q
-}
-
-fn with_axis(query: Query, code: u8, u: u8, v: u8) -> Query
-    ensures { result ≡ with_axis query code u v }
-{
-    let mut q = query;
-    let n = q.axis_count;
-    if n < 32 {
-        q.axes[n] = Condition {
-            code,
-            first: u,
-            second: v,
-        };
-        q.axis_count = n + 1;
-        return q;
-    }
-    q.axis_count = 33;
-    q
-}
-
-fn with_variable(q: Query, item: Item, v: u8) -> Filling
-    ensures { result ≡ variable_for q item v }
-{
-    match item {
-        Item::Head => Filling {
-            query: with_head(q, v),
-            item: Item::Head,
-        },
-        Item::Label(n) => Filling {
-            query: with_label(q, v, n),
-            item: Item::Done,
-        },
-        Item::Axis(c) => Filling {
-            query: q,
-            item: Item::Second(c, v),
-        },
-        Item::Second(c, u) => Filling {
-            query: with_axis(q, c, u, v),
-            item: Item::Done,
-        },
-        Item::Done => Filling {
-            query: q,
-            item: Item::Done,
-        },
-    }
-}
-
-fn numbered(query: Query, n: usize) -> Query
-    ensures { result ≡ numbered_as n query }
-{
-    let mut q = query;
-    q.variables = n;
-    q
-}
-
-// The query of the words behind the Q: a variable goes where the last name wants it, a name says what comes next.
-pub(crate) fn fill(text: &[u8], vs: Seen, ns: Seen) -> Query
-    requires { (vs.count ≤ 32) × (ns.count ≤ 32) }
-    ensures { result ≡ filled vs.count (spelled text.now vs) (spelled text.now ns) (said text.now) }
-{
-    let mut q = blank_query();
-    let mut item = Item::Head;
-    let mut at = word_start(text, 1);
-    while at < text.len() {
-        let a = at;
-        let end = word_end(text, a);
-        let n = end - a;
-        at = word_start(text, end);
-        if is_lower(byte_of(text, a, 0)) {
-            let v = number_of(text, &vs.from, &vs.size, vs.count, a, n);
-            let f = with_variable(q, item, v as u8);
-            q = f.query;
-            item = f.item;
-            continue;
+    let mut filling = Filling {
+        query: blank_query(),
+        item: Item::Head,
+    };
+    let mut variables = Seen::none();
+    let mut names = Seen::none();
+    let (_, mut rest) = text.split_at(text.len().min(1));
+    while let Some((word, behind)) = next_word(rest) {
+        rest = behind;
+        if is_variable(word) {
+            let v = variables.number(word, 16)?;
+            filling.put(v as u8)?;
+        } else if let Some(code) = axis_code(word) {
+            filling.item = Item::Axis(code);
+        } else {
+            let n = names.number(word, 32)?;
+            filling.item = Item::Label(n as u16);
         }
-        let c = axis_code(text, a, n);
-        if c < 7 {
-            item = Item::Axis(c);
-            continue;
-        }
-        let k = number_of(text, &ns.from, &ns.size, ns.count, a, n);
-        item = Item::Label(k as u16);
     }
-    numbered(q, vs.count)
+    filling.query.variables = variables.count;
+    Ok(Words {
+        query: filling.query,
+        names,
+    })
 }

@@ -1,16 +1,12 @@
 // Where a query text stops to be the beginning of a legal one.
-ghost use Rattle.std.specs.Prelude.{◌≡◌, ◌-◌};
+ghost use Rattle.std.specs.Prelude.{◌≡◌, ◌⊎◌, ◌-◌, suc, true, false, MatchOption};
+ghost use Rattle.meaning.specs.Texts.{among};
 ghost use Rattle.meaning.specs.Places.{place as place_of};
-ghost use Rattle.meaning.specs.QueryTexts.{query};
-ghost use Rattle.query_text.specs.Machine.{found, more as more_of, step as step_of, stopped as stopped_of, finished as finished_of};
+ghost use Rattle.meaning.specs.QueryTexts.{query, blank};
+ghost use Rattle.query_text.specs.Machine.{found, more, letter, in_a_label, step as step_of};
 
-use crate::{body, head};
-
-#[derive(Drop)]
-pub(crate) enum Verdict {
-    Legal,
-    Bad(usize),
-}
+use crate::letters::{is_blank, is_in_label, is_in_variable, is_lower, is_upper};
+use meaning::Refusal;
 
 // What was read last; for a name, how many more bytes it may have, or how many it has.
 #[derive(Clone, Copy)]
@@ -41,80 +37,132 @@ pub(crate) enum Now {
     End,
 }
 
-// n more bytes may follow, and this is one.
-pub(crate) fn more(n: usize, z: bool) -> bool
-    ensures { result ≡ more_of n z }
+// The bytes that a name may still have once b is read: one less where b is of the name, none where it is white space behind it.
+#[tactic(auto, using(crate::proofs::Steps::machine_steps))]
+fn bytes_left(n: usize, in_name: bool, b: u8) -> Option<usize>
+    ensures { MatchOption result ((more n in_name ≡ false) × (among blank b ≡ false))
+        (λ left. ((more n in_name ≡ true) × (left ≡ n - 1)) ⊎ ((more n in_name ≡ false) × (among blank b ≡ true) × (left ≡ 0))) }
 {
-    if 0 < n { z } else { false }
-}
-
-pub(crate) fn fewer(n: usize) -> usize
-    ensures { result ≡ n - 1 }
-{
-    if 0 < n { n - 1 } else { 0 }
-}
-
-fn stopped(q: Now) -> bool
-    ensures { result ≡ stopped_of q }
-{
-    if let Now::Stop = q { true } else { false }
-}
-
-fn finished(q: Now) -> bool
-    ensures { result ≡ finished_of q }
-{
-    if let Now::End = q { true } else { false }
-}
-
-// One byte on.
-fn step(q: Now, b: u8) -> Now
-    ensures { result ≡ step_of q b }
-{
-    match q {
-        Now::Stop => Now::Stop,
-        Now::Start => head::start(b),
-        Now::Asked => head::asked(b),
-        Now::Opened => head::opened(b),
-        Now::InHead(n) => head::in_head(n, b),
-        Now::HeadComma => head::head_comma(b),
-        Now::Closed => head::closed(b),
-        Now::Less => head::less(b),
-        Now::Wants => body::wants(b),
-        Now::NameC => body::name_c(b),
-        Now::NameN => body::name_n(b),
-        Now::NameF => body::name_f(b),
-        Now::Child(j) => body::in_child(j, b),
-        Now::Sibling(j) => body::in_sibling(j, b),
-        Now::Following(j) => body::in_following(j, b),
-        Now::Signs => body::signs(b),
-        Now::Signed => body::signed(b),
-        Now::AxisOpened => body::axis_opened(b),
-        Now::From(n) => body::in_first(n, b),
-        Now::Label(n) => body::in_a_label(n, b),
-        Now::LastOpened => body::last_opened(b),
-        Now::Last(n) => body::in_last(n, b),
-        Now::Done => body::done(b),
-        Now::End => body::end(b),
+    if 0 < n && in_name {
+        Some(n - 1)
+    } else if is_blank(b) {
+        Some(0)
+    } else {
+        None
     }
 }
 
-// Whether a text is legal, or the place where it stops to be the beginning of a legal one.
-pub(crate) fn find(text: &[u8]) -> Verdict
+// The letters of an axis name that are read once b is, where b is the next one.
+#[tactic(auto, using(crate::proofs::Steps::machine_steps))]
+fn letters_read(name: &[u8], j: usize, b: u8) -> Option<usize>
+    ensures { MatchOption result (letter name.now j b ≡ false) (λ k. (letter name.now j b ≡ true) × (k ≡ suc j)) }
+{
+    if j < name.len() && name[j] == b {
+        Some(j + 1)
+    } else {
+        None
+    }
+}
+
+// In or behind a label name, which may have n more bytes.
+#[tactic(auto, using(crate::proofs::Steps::machine_steps))]
+fn label(n: usize, b: u8) -> Now
+    ensures { result ≡ in_a_label n b }
+{
+    match bytes_left(n, is_in_label(b), b) {
+        Some(left) => Now::Label(left),
+        None if b == b'(' => Now::LastOpened,
+        None => Now::Stop,
+    }
+}
+
+pub(crate) fn find(text: &[u8]) -> Result<(), Refusal>
     ensures { result ≡ found (place_of query text.now) }
 {
     let mut q = Now::Start;
-    let mut i: usize = 0;
-    while i < text.len() {
-        let r = step(q, text[i]);
-        if stopped(r) {
-            return Verdict::Bad(i);
+    for (i, b) in text.iter().enumerate() {
+        q = step(q, *b);
+        if let Now::Stop = q {
+            return Err(Refusal::QueryText(i));
         }
-        q = r;
-        i += 1;
     }
-    if finished(q) {
-        Verdict::Legal
+    if let Now::End = q {
+        Ok(())
     } else {
-        Verdict::Bad(i)
+        Err(Refusal::QueryText(text.len()))
+    }
+}
+
+// One byte on. Three letters may begin an axis name or a label name.
+#[tactic(auto, using(crate::proofs::Steps::machine_steps))]
+fn step(q: Now, b: u8) -> Now
+    ensures { result ≡ step_of q b }
+{
+    let blank = is_blank(b);
+    match q {
+        Now::Start if b == b'Q' => Now::Asked,
+        Now::Asked if blank => Now::Asked,
+        Now::Asked if b == b'(' => Now::Opened,
+        Now::Opened if blank => Now::Opened,
+        Now::Opened if b == b')' => Now::Closed,
+        Now::Opened if is_lower(b) => Now::InHead(7),
+        Now::InHead(n) => match bytes_left(n, is_in_variable(b), b) {
+            Some(left) => Now::InHead(left),
+            None if b == b')' => Now::Closed,
+            None if b == b',' => Now::HeadComma,
+            None => Now::Stop,
+        },
+        Now::HeadComma if blank => Now::HeadComma,
+        Now::HeadComma if is_lower(b) => Now::InHead(7),
+        Now::Closed if blank => Now::Closed,
+        Now::Closed if b == b'<' => Now::Less,
+        Now::Less if b == b'-' => Now::Wants,
+        Now::Wants if blank => Now::Wants,
+        Now::Wants if b == b'C' => Now::NameC,
+        Now::Wants if b == b'N' => Now::NameN,
+        Now::Wants if b == b'F' => Now::NameF,
+        Now::Wants if is_upper(b) => Now::Label(15),
+        Now::NameC if b == b'h' => Now::Child(2),
+        Now::NameN if b == b'e' => Now::Sibling(2),
+        Now::NameF if b == b'o' => Now::Following(2),
+        Now::NameC | Now::NameN | Now::NameF => label(15, b),
+        Now::Child(j) => match letters_read(b"Child", j, b) {
+            Some(5) => Now::Signs,
+            Some(k) => Now::Child(k),
+            None => Now::Stop,
+        },
+        Now::Sibling(j) => match letters_read(b"NextSibling", j, b) {
+            Some(11) => Now::Signs,
+            Some(k) => Now::Sibling(k),
+            None => Now::Stop,
+        },
+        Now::Following(j) => match letters_read(b"Following", j, b) {
+            Some(9) => Now::Signed,
+            Some(k) => Now::Following(k),
+            None => Now::Stop,
+        },
+        Now::Signs if b == b'+' || b == b'*' => Now::Signed,
+        Now::Signs | Now::Signed if blank => Now::Signed,
+        Now::Signs | Now::Signed if b == b'(' => Now::AxisOpened,
+        Now::AxisOpened if blank => Now::AxisOpened,
+        Now::AxisOpened if is_lower(b) => Now::From(7),
+        Now::From(n) => match bytes_left(n, is_in_variable(b), b) {
+            Some(left) => Now::From(left),
+            None if b == b',' => Now::LastOpened,
+            None => Now::Stop,
+        },
+        Now::Label(n) => label(n, b),
+        Now::LastOpened if blank => Now::LastOpened,
+        Now::LastOpened if is_lower(b) => Now::Last(7),
+        Now::Last(n) => match bytes_left(n, is_in_variable(b), b) {
+            Some(left) => Now::Last(left),
+            None if b == b')' => Now::Done,
+            None => Now::Stop,
+        },
+        Now::Done if blank => Now::Done,
+        Now::Done if b == b'.' => Now::End,
+        Now::Done if b == b',' => Now::Wants,
+        Now::End if blank => Now::End,
+        _ => Now::Stop,
     }
 }

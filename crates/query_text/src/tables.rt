@@ -1,101 +1,67 @@
-// The variables and the label names of a text, each once, in the order of first appearance.
-ghost use Rattle.std.specs.Prelude.{◌≡◌, ◌≤◌};
-ghost use Rattle.meaning.specs.QueryTexts.{place_in, said, variables, names};
-ghost use Rattle.query_text.specs.Tables.{part, spelled_by, put_last, no_words, Both};
+// The variables or the label names of a text, each once, in the order of first appearance.
+ghost use Rattle.std.specs.Prelude.{◌≡◌, MatchResult, ◌≤◌, ◌<◌, [], length, map, set, ◌+◌};
+ghost use Rattle.meaning.specs.QueryTexts.{place_in};
+ghost use Rattle.meaning.specs.declared.Refusal.TheVariants.{Counts};
+ghost use Rattle.query_text.specs.Tables.{noted, texts};
 
-use crate::letters::is_lower;
-use crate::words::{axis_code, byte_of, same_word, word_end, word_start};
+use crate::words::place_of;
+use meaning::Refusal;
 
-// Words by where they stand; `over` where there were more than 32.
-#[derive(Clone, Copy)]
-pub(crate) struct Seen {
-    pub count: usize,
-    pub over: bool,
-    pub from: [usize; 32],
-    pub size: [usize; 32],
+// Writes an item into place `count`, where there is one, and gives the new count.
+pub(crate) fn push<T: Copy>(places: &mut [T], count: usize, item: T) -> Result<usize, Refusal>
+    ensures { MatchResult result
+        (λ n. (count < length places.old) × (places.new ≡ set places.old count item) × (n ≡ count + 1))
+        (λ why. (why ≡ Counts) × (length places.old ≤ count)) }
+{
+    if count < places.len() {
+        places[count] = item;
+        Ok(count + 1)
+    } else {
+        Err(Refusal::Counts)
+    }
 }
 
+// `count` words of the text, each a part of it.
 #[derive(Drop)]
-pub(crate) struct Tables {
-    pub variables: Seen,
-    pub names: Seen,
+pub(crate) struct Seen<'a> {
+    pub count: usize,
+    pub words: [&'a [u8]; 32],
 }
 
-fn no_words() -> Seen
-    ensures { result ≡ no_words }
-{
-    Seen {
-        count: 0,
-        over: false,
-        from: [0usize; 32],
-        size: [0usize; 32],
+impl<'a> Seen<'a> {
+    pub fn none() -> Self
+        ensures { (result.count ≡ 0) × (texts result ≡ []) }
+    {
+        Seen {
+            count: 0,
+            words: [b"".as_slice(); 32],
+        }
     }
-}
 
-// The place of a word in a table of `count` words, or the count.
-pub(crate) fn number_of<'a>(
-    text: &[u8],
-    from: &'a [usize; 32],
-    size: &'a [usize; 32],
-    count: usize,
-    at: usize,
-    n: usize,
-) -> usize
-    requires { count ≤ 32 }
-    ensures { (result ≤ count) × (result ≡ place_in (spelled_by text.now count from.now size.now) (part text.now at n)) }
-{
-    let mut i: usize = 0;
-    while i < count {
-        if same_word(text, from[i], size[i], at, n) {
-            return i;
-        }
-        i += 1;
+    pub fn words(&self) -> &[&'a [u8]]
+        requires { self.now.count ≤ 32 }
+        ensures { (map (λ x. x.now) result.now ≡ texts self.now) × (length result.now ≡ self.now.count) }
+    {
+        &self.words[..self.count]
     }
-    i
-}
 
-fn put_last(seen: Seen, at: usize, n: usize) -> Seen
-    ensures { result ≡ put_last seen at n }
-{
-    let mut s = seen;
-    let k = s.count;
-    if k < 32 {
-        s.from[k] = at;
-        s.size[k] = n;
-        s.count = k + 1;
-        return s;
-    }
-    s.over = true;
-    s
-}
-
-// The words behind the Q: a variable or a name that is new goes into its table. A table is copied only where it grows.
-pub(crate) fn gather(text: &[u8]) -> Tables
-    ensures { Both text.now result (variables (said text.now)) (names (said text.now)) }
-{
-    let mut vs = no_words();
-    let mut ns = no_words();
-    let mut at = word_start(text, 1);
-    while at < text.len() {
-        let a = at;
-        let end = word_end(text, a);
-        let n = end - a;
-        at = word_start(text, end);
-        if is_lower(byte_of(text, a, 0)) {
-            if vs.count <= number_of(text, &vs.from, &vs.size, vs.count, a, n) {
-                vs = put_last(vs, a, n);
-            }
-            continue;
+    // The number of a word, which is noted where it is new. There are at most `limit` words.
+    pub fn number(&mut self, word: &'a [u8], limit: usize) -> Result<usize, Refusal>
+        requires { (limit ≤ 32) × (self.old.count ≤ limit) }
+        ensures { MatchResult result
+            (λ k. (self.new.count ≤ limit) × (texts self.new ≡ noted (texts self.old) word.now) × (k ≡ place_in (texts self.new) word.now) × (k < limit)
+            × (self.new.count ≡ length (texts self.new)))
+            (λ why. (why ≡ Counts) × (limit < length (noted (texts self.old) word.now))) }
+    {
+        let n = self.count;
+        if let Some(k) = place_of(self.words(), word) {
+            return Ok(k);
         }
-        if axis_code(text, a, n) < 7 {
-            continue;
+        if n == limit {
+            return Err(Refusal::Counts);
         }
-        if ns.count <= number_of(text, &ns.from, &ns.size, ns.count, a, n) {
-            ns = put_last(ns, a, n);
-        }
-    }
-    Tables {
-        variables: vs,
-        names: ns,
+        self.words[n] = word;
+        self.count = n + 1;
+        Ok(n)
     }
 }

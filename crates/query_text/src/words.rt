@@ -1,112 +1,69 @@
-// The words of a text, by where they start and how many bytes they have.
-ghost use Rattle.std.specs.Prelude.{◌≡◌, true, [], ◌+◌, ◌-◌, ◌≤◌, ◌<◌, length, get_or, drop};
-ghost use Rattle.meaning.specs.Texts.{among};
-ghost use Rattle.meaning.specs.QueryTexts.{in_word, words, put, same, place_in, axis-names};
-ghost use Rattle.query_text.specs.Tables.{part};
+// The words of a text.
+ghost use Rattle.std.specs.Prelude.{◌≡◌, true, false, MatchOption, ◌<◌, [], length, map};
+ghost use Rattle.meaning.specs.QueryTexts.{words, place_in, has, is_variable as is_variable_of, axis-names};
+ghost use Rattle.query_text.specs.Tables.{Front, Next};
 
-use crate::letters::is_in_word;
+use crate::letters::{is_in_word, is_lower};
 
-// The byte i places behind `at`, 0 past the text's end.
-pub(crate) fn byte_of(text: &[u8], at: usize, i: usize) -> u8
-    ensures { result ≡ get_or text.now (at + i) 0 }
+// How many bytes at the front of a text are of a word, or how many are not.
+fn front(text: &[u8], of_word: bool) -> usize
+    ensures { Front text.now of_word result }
 {
-    if at < text.len() {
-        if i < text.len() - at {
-            return text[at + i];
-        }
-    }
-    0
-}
-
-// Where the next word starts, or the text's end.
-pub(crate) fn word_start(text: &[u8], at: usize) -> usize
-    ensures { (at ≤ result) × (words [] (drop at text.now) ≡ words [] (drop result text.now))
-        × (result < length text.now → among in_word (get_or text.now result 0) ≡ true) }
-{
-    let mut i = at;
-    while i < text.len() {
-        if is_in_word(text[i]) {
+    for (i, b) in text.iter().enumerate() {
+        if is_in_word(*b) != of_word {
             return i;
         }
-        i += 1;
     }
-    i
+    text.len()
 }
 
-// Where the word from `at` ends.
-pub(crate) fn word_end(text: &[u8], at: usize) -> usize
-    ensures { (at ≤ result) × (words [] (drop at text.now) ≡ put (part text.now at (result - at)) (words [] (drop result text.now)))
-        × (at < length text.now → among in_word (get_or text.now at 0) ≡ true → at < result) }
+// The next word of a text, and what stands behind it.
+pub(crate) fn next_word(text: &[u8]) -> Option<(&[u8], &[u8])>
+    ensures { MatchOption result (words [] text.now ≡ []) (λ p. Next text.now p.0.now p.1.now) }
 {
-    let mut i = at;
-    while i < text.len() {
-        if !is_in_word(text[i]) {
-            return i;
+    let (_, word_on) = text.split_at(front(text, false));
+    if word_on.is_empty() {
+        return None;
+    }
+    Some(word_on.split_at(front(word_on, true)))
+}
+
+// A variable is told by its first letter.
+pub(crate) fn is_variable(word: &[u8]) -> bool
+    ensures { result ≡ is_variable_of word.now }
+{
+    match word {
+        [first, ..] => is_lower(*first),
+        [] => false,
+    }
+}
+
+// The place of a word among others.
+pub(crate) fn place_of(others: &[&[u8]], word: &[u8]) -> Option<usize>
+    ensures { MatchOption result (has (map (λ x. x.now) others.now) word.now ≡ false)
+        (λ k. (has (map (λ x. x.now) others.now) word.now ≡ true) × (k ≡ place_in (map (λ x. x.now) others.now) word.now) × (k < length others.now)) }
+{
+    for (i, other) in others.iter().enumerate() {
+        if *other == word {
+            return Some(i);
         }
-        i += 1;
     }
-    i
+    None
 }
 
-// Two words are the same: the lengths first, then byte by byte.
-pub(crate) fn same_word(text: &[u8], a: usize, m: usize, b: usize, n: usize) -> bool
-    ensures { result ≡ same (part text.now a m) (part text.now b n) }
+// The code of an axis name.
+pub(crate) fn axis_code(word: &[u8]) -> Option<u8>
+    ensures { MatchOption result (has axis-names word.now ≡ false) (λ c. (has axis-names word.now ≡ true) × (c ≡ place_in axis-names word.now)) }
 {
-    if m != n {
-        return false;
-    }
-    let mut i: usize = 0;
-    while i < n {
-        if byte_of(text, a, i) != byte_of(text, b, i) {
-            return false;
-        }
-        i += 1;
-    }
-    true
-}
-
-// A word of the text is spelled as the name.
-pub(crate) fn spells(name: &[u8], text: &[u8], b: usize, n: usize) -> bool
-    ensures { result ≡ same name.now (part text.now b n) }
-{
-    if name.len() != n {
-        return false;
-    }
-    let mut i: usize = 0;
-    while i < name.len() {
-        if name[i] != byte_of(text, b, i) {
-            return false;
-        }
-        i += 1;
-    }
-    true
-}
-
-// The code of an axis name, 7 of any other word.
-pub(crate) fn axis_code(text: &[u8], at: usize, n: usize) -> u8
-    ensures { result ≡ place_in axis-names (part text.now at n) }
-{
-    if spells(b"Child", text, at, n) {
-        return 0;
-    }
-    if spells(b"Child+", text, at, n) {
-        return 1;
-    }
-    if spells(b"Child*", text, at, n) {
-        return 2;
-    }
-    if spells(b"NextSibling", text, at, n) {
-        return 3;
-    }
-    if spells(b"NextSibling+", text, at, n) {
-        return 4;
-    }
-    if spells(b"NextSibling*", text, at, n) {
-        return 5;
-    }
-    if spells(b"Following", text, at, n) {
-        6
-    } else {
-        7
-    }
+    let names: [&[u8]; 7] = [
+        b"Child",
+        b"Child+",
+        b"Child*",
+        b"NextSibling",
+        b"NextSibling+",
+        b"NextSibling*",
+        b"Following",
+    ];
+    let code = place_of(&names, word)?;
+    Some(code as u8)
 }

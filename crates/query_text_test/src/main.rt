@@ -3,6 +3,7 @@
 
 mod cases;
 mod limits;
+mod text;
 mod tries;
 
 use crate::cases::{cuts, damaged, example, reasons, spaces, spelling};

@@ -18,9 +18,10 @@ use Rattle.meaning.specs.Entries.{Ground, ◌when◌, Verdict, fine, refuse, low
 use Rattle.meaning.specs.declared.Refusal.{Refusal}
 use Rattle.meaning.specs.declared.Refusal.TheVariants.{EmptyHead, ShortBuffer}
 use Rattle.meaning.specs.declared.Ending.{Ending}
+use Rattle.std.specs.Prelude.{Result, Ok, Err}
+use Rattle.meaning.specs.declared.Listing.{Listing}
+use Rattle.meaning.specs.declared.SentenceReading.{SentenceReading}
 use Rattle.meaning.specs.declared.Query.{Query}
-use Rattle.meaning.specs.declared.ListAnswer.{ListAnswer}
-use Rattle.meaning.specs.declared.ListAnswer.TheVariants.{Listed, Refused}
 use Rattle.theory.specs.Cost.{tuples-listed, tuples-room}
 use Rattle.theory.specs.Tried.{answers_are}
 use Rattle.theory.specs.Smallest.{Fit}
@@ -30,8 +31,6 @@ use Rattle.answers.proofs.Searches.{head-length}
 use Rattle.meaning.specs.Names.{too_many}
 use Rattle.meaning.specs.Sentences.{blank, Reading, found, wrong_at, large_at, tree_of, size, sentence_says, sentence_answer, posts_of, labels_of, sentence_leaves, SentenceRead}
 use Rattle.meaning.specs.declared.Refusal.TheVariants.{Counts}
-use Rattle.meaning.specs.declared.SentenceAnswer.{SentenceAnswer}
-use Rattle.meaning.specs.declared.SentenceAnswer.TheVariants.{Read as SRead, Refused as SRefused}
 use Rattle.brackets.specs.Reader.{reading_of}
 use Rattle.brackets.specs.Whole.{reading_right}
 use Rattle.brackets.specs.Table.{posts_length, labels_length, read_table}
@@ -62,31 +61,34 @@ take_each k (s ∷ L) (suc n) l each zero m = each 0 (omega arith)
 take_each k (s ∷ L) (suc n) l each (suc i) m = take_each k L n (le_of_suc-le-suc l) (λ j h. each (suc j) (omega (arith, h))) i (le_of_suc-le-suc m)
 
 -- 2. A listing that was not refused.
-is_listed : ListAnswer → Bool
-is_listed (Listed e n u) = true
-is_listed (Refused r) = false
+is_listed : Result Listing Refusal → Bool
+is_listed (Ok l) = true
+is_listed (Err r) = false
 
-tuples_of : ListAnswer → ℕ
-tuples_of (Listed e n u) = n
-tuples_of (Refused r) = 0
+tuples_of : Result Listing Refusal → ℕ
+tuples_of (Ok l) = l.tuples
+tuples_of (Err r) = 0
 
-says_listed : (w : Verdict) (o : Outcome) (e : Ending) (n u : ℕ) → list_says w o ≡ Listed e n u → (w ≡ fine) × (o.tuples ≡ n)
+says_listed : (w : Verdict) (o : Outcome) (x : Listing) → list_says w o ≡ Ok x → (w ≡ fine) × (o.tuples ≡ x.tuples)
 unfolding list_says is_listed tuples_of
-says_listed fine o e n u h = (refl, ap tuples_of h)
-says_listed (refuse r) o e n u h = absurd (let z : ◌≡◌ {A = ℕ} 0 1 = cc in omega arith)
+says_listed fine o x h = (refl, ap tuples_of h)
+says_listed (refuse r) o x h = absurd (let z : ◌≡◌ {A = ℕ} 0 1 = cc in omega arith)
 
 head-some : (c d : Bool) → lowest ((EmptyHead when c) ∷ (ShortBuffer when d) ∷ []) ≡ fine → c ≡ false
 unfolding lowest
 head-some true d h = absurd (let z : ◌≡◌ {A = ℕ} 0 1 = cc in omega arith)
 head-some false d h = refl
 
-module _ (t labels : List ℕ) (q : Query) (A : ℕ) (sets₀ found : List ℕ) (e : Ending) (n used : ℕ) (h : list_answer t labels (asked q) A sets₀ found ≡ Listed e n used) where
+module _ (t labels : List ℕ) (q : Query) (A : ℕ) (sets₀ found : List ℕ) (x : Listing) (h : list_answer t labels (asked q) A sets₀ found ≡ Ok x) where
+  abbrev n : ℕ
+  n = x.tuples
+
   abbrev P : Problem
   P = problem t labels (asked q)
 
   said : (lowest (list_grounds t labels (asked q) sets₀) ≡ fine) × ((list_outcome t labels (asked q) A (length found)).tuples ≡ n)
   unfolding list_answer
-  said = says_listed (lowest (list_grounds t labels (asked q) sets₀)) (list_outcome t labels (asked q) A (length found)) e n used h
+  said = says_listed (lowest (list_grounds t labels (asked q) sets₀)) (list_outcome t labels (asked q) A (length found)) x h
 
   rest : List Ground
   rest = (EmptyHead when eqb (length (asked q).head) 0) ∷ (ShortBuffer when ltb (length sets₀) (needed t (asked q))) ∷ []
@@ -182,40 +184,44 @@ unfolding listing
 any_buffers t labels q s f e g = answer_by_length t labels q 1000000 _ s _ f (length-replicate {A = ℕ} 256 0 ∙ sym e) (length-replicate {A = ℕ} 4096 0 ∙ sym g)
 
 -- a listing that is not refused, and one that is
-pub lists : (k end : ℕ) (L : List (List ℕ)) (a : ListAnswer) (e : Ending) (n used : ℕ) (ts : List (List ℕ)) → a ≡ Listed e n used → ts ≡ take n L → listed k end L a ≡ goes_on (tuple_lines k ts ++ ending_line k e n used) end
+pub lists : (k end : ℕ) (L : List (List ℕ)) (a : Result Listing Refusal) (x : Listing) (ts : List (List ℕ)) → a ≡ Ok x → ts ≡ take x.tuples L → listed k end L a ≡ goes_on (tuple_lines k ts ++ ending_line k x.ending x.tuples x.strikings) end
 unfolding listed
-lists k end L a e n used ts h g = ap (listed k end L) h ∙ ap (λ (x : List (List ℕ)). goes_on (tuple_lines k x ++ ending_line k e n used) end) (sym g)
+lists k end L a x ts h g = ap (listed k end L) h ∙ ap (λ (y : List (List ℕ)). goes_on (tuple_lines k y ++ ending_line k x.ending x.tuples x.strikings) end) (sym g)
 
-pub lists_refused : (k end : ℕ) (L : List (List ℕ)) (a : ListAnswer) (r : Refusal) → a ≡ Refused r → listed k end L a ≡ stops (refusal_line k r)
+pub lists_refused : (k end : ℕ) (L : List (List ℕ)) (a : Result Listing Refusal) (r : Refusal) → a ≡ Err r → listed k end L a ≡ stops (refusal_line k r)
 unfolding listed
 lists_refused k end L a r h = ap (listed k end L) h
 
 -- 4. What was read.
-rows_of : SentenceAnswer → ℕ
-rows_of (SRead rows end) = rows
-rows_of (SRefused r) = 0
+-- a sentence that was read
+abbrev SRead : ℕ → ℕ → Result SentenceReading Refusal
+SRead rows end = Ok (record { rows = rows; end = end })
 
-is_read : SentenceAnswer → Bool
-is_read (SRead rows end) = true
-is_read (SRefused r) = false
+rows_of : Result SentenceReading Refusal → ℕ
+rows_of (Ok x) = x.rows
+rows_of (Err r) = 0
 
-not_read : (rows end : ℕ) (r : Refusal) → SRead rows end ≡ SRefused r → ⊥
+is_read : Result SentenceReading Refusal → Bool
+is_read (Ok x) = true
+is_read (Err r) = false
+
+not_read : (rows end : ℕ) (r : Refusal) → SRead rows end ≡ Err r → ⊥
 unfolding is_read
 not_read rows end r e = let z : ◌≡◌ {A = Bool} true false = ap is_read e in absurd (let y : ◌≡◌ {A = ℕ} 0 1 = cc in omega arith)
 
-pub columns_are : (text list post label : List ℕ) (a : SentenceAnswer) (rows end : ℕ) (post' label' : List ℕ) (R : SentenceRead text list post label a post' label') → a ≡ SRead rows end → (take rows post' ≡ posts_of R.reading) × (take rows label' ≡ labels_of list R.reading)
+pub columns_are : (text list post label : List ℕ) (a : Result SentenceReading Refusal) (rows end : ℕ) (post' label' : List ℕ) (R : SentenceRead text list post label a post' label') → a ≡ SRead rows end → (take rows post' ≡ posts_of R.reading) × (take rows label' ≡ labels_of list R.reading)
 unfolding sentence_answer sentence_says pick posts_of labels_of sentence_leaves rows_of
 columns_are text list post label a rows end post' label' R i =
-    go R.reading (too_many list) (sym i ∙ R.answered) (R.posts_left ∙ ap (λ (b : SentenceAnswer). sentence_leaves b (posts_of R.reading) post) i) (R.labels-left ∙ ap (λ (b : SentenceAnswer). sentence_leaves b (labels_of list R.reading) label) i)
+    go R.reading (too_many list) (sym i ∙ R.answered) (R.posts_left ∙ ap (λ (b : Result SentenceReading Refusal). sentence_leaves b (posts_of R.reading) post) i) (R.labels-left ∙ ap (λ (b : Result SentenceReading Refusal). sentence_leaves b (labels_of list R.reading) label) i)
   where
-    go : (o : Reading) (b : Bool) → SRead rows end ≡ pick b (SRefused Counts) (sentence_says text o (length post) (length label)) → post' ≡ posts_of o ++ drop rows post → label' ≡ labels_of list o ++ drop rows label
+    go : (o : Reading) (b : Bool) → SRead rows end ≡ pick b (Err Counts) (sentence_says text o (length post) (length label)) → post' ≡ posts_of o ++ drop rows post → label' ≡ labels_of list o ++ drop rows label
         → (take rows post' ≡ posts_of o) × (take rows label' ≡ labels_of list o)
     go o true e p l = absurd (not_read rows end _ e)
     go (wrong_at q) false e p l = absurd (not_read rows end _ e)
     go (large_at q) false e p l = absurd (not_read rows end _ e)
     go (found x r) false e p l = fits (leb (size (tree_of x)) (length post) & leb (size (tree_of x)) (length label)) e
       where
-        fits : (c : Bool) → SRead rows end ≡ pick c (SRead (size (tree_of x)) (length text - length r)) (SRefused ShortBuffer) → (take rows post' ≡ posts_of (found x r)) × (take rows label' ≡ labels_of list (found x r))
+        fits : (c : Bool) → SRead rows end ≡ pick c (SRead (size (tree_of x)) (length text - length r)) (Err ShortBuffer) → (take rows post' ≡ posts_of (found x r)) × (take rows label' ≡ labels_of list (found x r))
         fits false d = absurd (not_read rows end _ d)
         fits true d =
             let n : rows ≡ size (tree_of x) = ap rows_of d in (
@@ -224,9 +230,9 @@ columns_are text list post label a rows end post' label' R i =
             )
 
 -- the rows fit the columns
-pub rows_few : (text list post label : List ℕ) (a : SentenceAnswer) (rows end : ℕ) (post' label' : List ℕ) → SentenceRead text list post label a post' label' → a ≡ SRead rows end → rows ≤ 1024
+pub rows_few : (text list post label : List ℕ) (a : Result SentenceReading Refusal) (rows end : ℕ) (post' label' : List ℕ) → SentenceRead text list post label a post' label' → a ≡ SRead rows end → rows ≤ 1024
 rows_few text list post label a rows end post' label' R e =
-    (read_table text list post label rows end post' label' (subst (λ (b : SentenceAnswer). SentenceRead text list post label b post' label') e R)).few
+    (read_table text list post label rows end post' label' (subst (λ (b : Result SentenceReading Refusal). SentenceRead text list post label b post' label') e R)).few
 
 -- 5. A sentence: only white space is left; it is refused; it is read and listed.
 pub does_nothing : (k : ℕ) (q : Question) (list s out : List ℕ) → blank s ≡ true → Does k q list s (Last 0) out out
@@ -237,17 +243,17 @@ does_nothing k q list s out e = record {
   leaves = record { answered = rw e; printed = rw e };
 }
 
-module _ (k : ℕ) (q : Question) (list s post label post' label' : List ℕ) (a : SentenceAnswer) (R : SentenceRead s list post label a post' label') (left : blank s ≡ false) (p : length post ≡ 1024) (l : length label ≡ 1024) (out out' : List ℕ) where
-  step_is : (b : SentenceAnswer) → a ≡ b → step_for k q list s R.reading ≡ read k q list R.reading b
+module _ (k : ℕ) (q : Question) (list s post label post' label' : List ℕ) (a : Result SentenceReading Refusal) (R : SentenceRead s list post label a post' label') (left : blank s ≡ false) (p : length post ≡ 1024) (l : length label ≡ 1024) (out out' : List ℕ) where
+  step_is : (b : Result SentenceReading Refusal) → a ≡ b → step_for k q list s R.reading ≡ read k q list R.reading b
   unfolding step_for step pick
   step_is b e =
       rw left
       (ap (read k q list R.reading)
       (ap (λ (n : ℕ). sentence_answer s list R.reading n 1024) (sym p) ∙ (ap (λ (n : ℕ). sentence_answer s list R.reading (length post) n) (sym l) ∙ (sym R.answered ∙ e))))
 
-  pub does_refused : (r : Refusal) (n : ℕ) → a ≡ SRefused r → 72 ≤ length out → Wrote out 0 72 (refusal_line k r) out' n → Does k q list s (Last n) out out'
+  pub does_refused : (r : Refusal) (n : ℕ) → a ≡ Err r → 72 ≤ length out → Wrote out 0 72 (refusal_line k r) out' n → Does k q list s (Last n) out out'
   unfolding read
-  does_refused r n e m W = record { reading = R.reading; is_reading = R.is_reading; leaves = leaves_stops _ 72 (refusal_line k r) out out' n (step_is (SRefused r) e) m W }
+  does_refused r n e m W = record { reading = R.reading; is_reading = R.is_reading; leaves = leaves_stops _ 72 (refusal_line k r) out out' n (step_is (Err r) e) m W }
 
   pub does_read : (rows end : ℕ) (b : SentenceStep) → a ≡ SRead rows end
       → Leaves (listed k end (answers (problem (take rows post') (take rows label') q)) (listing (take rows post') (take rows label') q)) b out out' → Does k q list s b out out'

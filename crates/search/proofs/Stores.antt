@@ -6,6 +6,10 @@ use native.Mathlib.Omega.{arith}
 use native.Mathlib.Nat.{mul-le-mul_right, mul-le-mul_left, mul_assoc, add-mul, one-mul}
 use lib.ListN.{length, get_or, set, take, drop, length-append, length-drop, drop_of_length-le}
 use lib.Seq.{sets, length-sets, take-suc, drop-cons, drop-drop, get_or-drop}
+use borrow.Rule.Slice.PartMut.{put_mid}
+use Rattle.std.proofs.lemmas.Slice.{put_mid-paste}
+use Rattle.std.proofs.Math.Seq.{take-length}
+use Rattle.std.proofs.lemmas.List.Edits.{sets-eq}
 use Rattle.query_text.proofs.NameLaws.{sets_append}
 use Rattle.meaning.specs.Axes.{bytes}
 use Rattle.meaning.specs.Told.{number, place}
@@ -37,27 +41,12 @@ wrote_length b₀ at m u b₁ r W = ap length W.stored ∙ length-sets b₀ at u
 pub wrote_byte : (b : List ℕ) (at x : ℕ) → Wrote b at 1 (x ∷ []) (set b at x) (at + 1)
 wrote_byte b at x = record { behind = refl; few = omega arith; stored = refl }
 
--- 2. A word, byte after byte: what is left to store.
-abbrev pub Stores : List ℕ → List ℕ → ℕ → List ℕ → ℕ → Type 0
-Stores w b₀ at b i = sets b (at + i) (drop i w) ≡ sets b₀ at w
-
-pub stores_start : (w b : List ℕ) (at : ℕ) → Stores w b at b 0
-stores_start w b at = let e : at + 0 ≡ at = omega arith in ap (λ (k : ℕ). sets b k w) e
-
-pub stores_next : (w b₀ : List ℕ) (at : ℕ) (b : List ℕ) (i x : ℕ) → i < length w → Stores w b₀ at b i → x ≡ get_or w i 0 → Stores w b₀ at (set b (at + i) x) (i + 1)
-stores_next w b₀ at b i x l h e =
-    let d : at + (i + 1) ≡ suc (at + i) = omega arith in
-    let f : i + 1 ≡ suc i = omega arith in
-    ap (λ (k : ℕ). sets (set b (at + i) x) k (drop (i + 1) w)) d
-    ∙ ap (λ (k : ℕ). sets (set b (at + i) x) (suc (at + i)) (drop k w)) f
-    ∙ ap (λ (y : ℕ). sets (set b (at + i) y) (suc (at + i)) (drop (suc i) w)) e
-    ∙ ap (sets b (at + i)) (sym (drop-cons w i 0 l)) ∙ h
-
-pub stores_end : (w b₀ : List ℕ) (at : ℕ) (b : List ℕ) (i : ℕ) → i ≤ length w → length w ≤ i → Stores w b₀ at b i → Wrote b₀ at (length w) w b (at + i)
-stores_end w b₀ at b i l m h = record {
-  behind = let e : i ≡ length w = omega arith in ap (λ (k : ℕ). at + k) e;
+-- 2. A word, copied to its place.
+pub wrote_copied : (w b new : List ℕ) (at k : ℕ) → at + length w ≤ length b → new ≡ w → length w ≡ k → Wrote b at (length w) w (put_mid at k b new) (at + length w)
+wrote_copied w b new at k h e l = record {
+  behind = refl;
   few = omega arith;
-  stored = ap (sets b (at + i)) (sym (drop_of_length-le w m)) ∙ h;
+  stored = put_mid-paste at k b new w (length w) e l refl ∙ ap (λ (x : List ℕ). take at b ++ x ++ drop (at + length w) b) (take-length w) ∙ sym (sets-eq w b at h);
 }
 
 -- 3. The rows of a tuple.

@@ -1,5 +1,5 @@
 -- Steps in a row are the whole run; and there is exactly one run on every input. Assumes nothing.
-use Rattle.std.specs.Prelude.{◌≡◌, refl, Bool, true, false, List, [], ◌∷◌, ◌++◌, ℕ, zero, suc, ◌<◌, length, take, drop, replicate}
+use Rattle.std.specs.Prelude.{◌≡◌, refl, Bool, true, false, Result, Ok, Err, List, [], ◌∷◌, ◌++◌, ℕ, zero, suc, ◌<◌, length, take, drop, replicate}
 use Rattle.std.proofs.Common.{sym, ap, subst, ◌∙◌, append-nil, arith}
 use Rattle.std.proofs.lemmas.List.{length-replicate}
 use Rattle.std.proofs.Math.Seq.{take-append_seam}
@@ -10,17 +10,14 @@ use Rattle.meaning.specs.Answers.{answers}
 use Rattle.meaning.specs.Entries.{at_front, joined}
 use Rattle.meaning.specs.Sentences.{blank, Reading, IsReading, sentence_answer, sentence_rest, posts_of, labels_of}
 use Rattle.meaning.specs.QueryTexts.{said, names, closed, query_of, answer}
-use Rattle.meaning.specs.declared.ListAnswer.{ListAnswer}
-use Rattle.meaning.specs.declared.ListAnswer.TheVariants.{Listed, Refused as ListRefused}
-use Rattle.meaning.specs.declared.QueryTextAnswer.{QueryTextAnswer}
-use Rattle.meaning.specs.declared.QueryTextAnswer.TheVariants.{Read as TextRead, Refused as TextRefused}
-use Rattle.meaning.specs.declared.SentenceAnswer.{SentenceAnswer}
-use Rattle.meaning.specs.declared.SentenceAnswer.TheVariants.{Read as SentenceRead, Refused as SentenceRefused}
 use Rattle.brackets.specs.Reader.{reading_of}
 use Rattle.brackets.specs.Whole.{reading_right}
 use Rattle.brackets.specs.Unique.{one-reading}
 use Rattle.brackets.specs.Rest.{read_behind}
 use Rattle.meaning.specs.Run.{Step, stops, goes_on, step, read, listed, listing, Onward, Prints, query_text_of, behind, Begun, IsRun, refusal_line}
+use Rattle.meaning.specs.declared.Refusal.{Refusal}
+use Rattle.meaning.specs.declared.Listing.{Listing}
+use Rattle.meaning.specs.declared.SentenceReading.{SentenceReading}
 use Rattle.search.specs.Steps.{lines_of, step_says, step_for, Leaves, Does}
 use Rattle.search.specs.declared.step.SentenceStep.{SentenceStep}
 use Rattle.search.specs.declared.step.SentenceStep.TheVariants.{Next, Last}
@@ -87,11 +84,11 @@ in_a_row q list (p ∷ ps) k s (a, out, out', D, e, T) = go (blank s) refl (step
         )
 
 -- the run whose query text was read: the steps in a row print what a run prints
-pub run_in_a_row : (input : List ℕ) (n : ℕ) (ps : List (List ℕ)) → answer (query_text_of input) 544 ≡ TextRead n
+pub run_in_a_row : (input : List ℕ) (n : ℕ) (ps : List (List ℕ)) → answer (query_text_of input) 544 ≡ Ok n
     → InARow (asked (query_of (said (query_text_of input)))) (closed (names (said (query_text_of input)))) ps 1 (behind input) → IsRun input (joined ps)
 unfolding IsRun Begun
 run_in_a_row input n ps e H =
-    subst (λ (x : QueryTextAnswer). Begun x (said (query_text_of input)) (behind input) (joined ps)) (sym e)
+    subst (λ (x : Result ℕ Refusal). Begun x (said (query_text_of input)) (behind input) (joined ps)) (sym e)
     (in_a_row (asked (query_of (said (query_text_of input)))) (closed (names (said (query_text_of input)))) ps 1 (behind input) H)
 
 -- 2. No two runs print different bytes.
@@ -117,12 +114,12 @@ pub one-run : (input out out' : List ℕ) → IsRun input out → IsRun input ou
 unfolding IsRun Begun
 one-run input out out' R R' = go (answer (query_text_of input) 544) R R'
   where
-    go : (a : QueryTextAnswer) → Begun a (said (query_text_of input)) (behind input) out → Begun a (said (query_text_of input)) (behind input) out' → out ≡ out'
-    go (TextRead n) (gs, P) (hs, P') = one_print (asked (query_of (said (query_text_of input)))) (closed (names (said (query_text_of input)))) gs hs 1 (behind input) out out' P P'
-    go (TextRefused r) e f = e ∙ sym f
+    go : (a : Result ℕ Refusal) → Begun a (said (query_text_of input)) (behind input) out → Begun a (said (query_text_of input)) (behind input) out' → out ≡ out'
+    go (Ok n) (gs, P) (hs, P') = one_print (asked (query_of (said (query_text_of input)))) (closed (names (said (query_text_of input)))) gs hs 1 (behind input) out out' P P'
+    go (Err r) e f = e ∙ sym f
 
 -- 3. There is a run on every input: where it goes on, less of the text is left.
-rest_shorter : (s list : List ℕ) (g : Reading) (rows end : ℕ) → IsReading s g → sentence_answer s list g 1024 1024 ≡ SentenceRead rows end → length (drop end s) < length s
+rest_shorter : (s list : List ℕ) (g : Reading) (rows end : ℕ) → IsReading s g → sentence_answer s list g 1024 1024 ≡ Ok (record { rows = rows; end = end }) → length (drop end s) < length s
 unfolding sentence_rest
 rest_shorter s list g rows end i e =
     let z : List ℕ = replicate 1024 0 in
@@ -153,13 +150,13 @@ pub step_shorter : (k : ℕ) (q : Question) (list s : List ℕ) (g : Reading) (l
 unfolding step read listed end_of
 step_shorter k q list s g lines end i h = go (sentence_answer s list g 1024 1024) refl h
   where
-    go : (a : SentenceAnswer) → sentence_answer s list g 1024 1024 ≡ a → read k q list g a ≡ goes_on lines end → length (drop end s) < length s
-    go (SentenceRefused r) e f = absurd (not_on _ lines end f)
-    go (SentenceRead rows end') e f = on (listing (posts_of g) (labels_of list g) q) f
+    go : (a : Result SentenceReading Refusal) → sentence_answer s list g 1024 1024 ≡ a → read k q list g a ≡ goes_on lines end → length (drop end s) < length s
+    go (Err r) e f = absurd (not_on _ lines end f)
+    go (Ok x) e f = on (listing (posts_of g) (labels_of list g) q) f
       where
-        on : (a : ListAnswer) → listed k end' (answers (problem (posts_of g) (labels_of list g) q)) a ≡ goes_on lines end → length (drop end s) < length s
-        on (ListRefused r) j = absurd (not_on _ lines end j)
-        on (Listed w m u) j = let d : end' ≡ end = ap end_of j in subst (λ (x : ℕ). length (drop x s) < length s) d (rest_shorter s list g rows end' i e)
+        on : (a : Result Listing Refusal) → listed k x.end (answers (problem (posts_of g) (labels_of list g) q)) a ≡ goes_on lines end → length (drop end s) < length s
+        on (Err r) j = absurd (not_on _ lines end j)
+        on (Ok l) j = let d : x.end ≡ end = ap end_of j in subst (λ (y : ℕ). length (drop y s) < length s) d (rest_shorter s list g x.rows x.end i e)
 
 prints : (q : Question) (list : List ℕ) (f : ℕ) (k : ℕ) (s : List ℕ) → length s < f → (out : List ℕ) × (gs : List Reading) × Prints q list gs k s out
 unfolding Prints Onward non
@@ -181,6 +178,6 @@ pub some-run : (input : List ℕ) → (out : List ℕ) × IsRun input out
 unfolding IsRun Begun
 some-run input = go (answer (query_text_of input) 544)
   where
-    go : (a : QueryTextAnswer) → (out : List ℕ) × Begun a (said (query_text_of input)) (behind input) out
-    go (TextRead n) = let p = prints (asked (query_of (said (query_text_of input)))) (closed (names (said (query_text_of input)))) (suc (length (behind input))) 1 (behind input) (omega arith) in (p.0, (p.1, p.2))
-    go (TextRefused r) = (refusal_line 0 r, refl)
+    go : (a : Result ℕ Refusal) → (out : List ℕ) × Begun a (said (query_text_of input)) (behind input) out
+    go (Ok n) = let p = prints (asked (query_of (said (query_text_of input)))) (closed (names (said (query_text_of input)))) (suc (length (behind input))) 1 (behind input) (omega arith) in (p.0, (p.1, p.2))
+    go (Err r) = (refusal_line 0 r, refl)

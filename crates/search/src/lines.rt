@@ -1,10 +1,9 @@
 // The lines that a run prints, byte after byte into a lent buffer.
 ghost use Rattle.std.specs.Prelude.{◌≡◌, List, [], ◌∷◌, ◌++◌, map, ℕ, ◌+◌, ◌*◌, ◌≤◌, ◌<◌, length, take, drop};
-ghost use Rattle.meaning.specs.Told.{number, place};
 ghost use Rattle.meaning.specs.Run.{decimal, spaced, line, tuple_lines, word, ending_line, refusal_line};
 ghost use Rattle.search.specs.Wrote.{Wrote, rows_spaced, chunks};
 
-use meaning::{Ending, Refusal};
+use meaning::{Ending, Listing, Refusal};
 
 fn put_byte(out: &mut [u8], at: usize, b: u8) -> usize
     requires { at < length out.old }
@@ -31,13 +30,9 @@ fn put_word(out: &mut [u8], at: usize, word: &[u8]) -> usize
     requires { at + length word.now ≤ length out.old }
     ensures { Wrote out.old at (length word.now) word.now out.new result }
 {
-    let mut i: usize = 0;
-    while i < word.len() {
-        let b = word[i];
-        out[at + i] = b;
-        i += 1;
-    }
-    at + i
+    let end = at + word.len();
+    out[at..end].copy_from_slice(word);
+    end
 }
 
 // A space and a number.
@@ -55,11 +50,8 @@ fn put_rows(out: &mut [u8], at: usize, found: &[u16], from: usize, k: usize) -> 
     ensures { Wrote out.old at (k * 21) (rows_spaced (take k (drop from found.now))) out.new result }
 {
     let mut next = at;
-    let mut i: usize = 0;
-    while i < k {
-        let row = found[from + i];
-        next = put_number(out, next, row as u64);
-        i += 1;
+    for row in &found[from..from + k] {
+        next = put_number(out, next, *row as u64);
     }
     next
 }
@@ -87,10 +79,8 @@ pub(crate) fn put_tuples(out: &mut [u8], sentence: u64, found: &[u16], k: usize,
     ensures { Wrote out.old 0 (n * ((k + 1) * 21)) (tuple_lines sentence (chunks k n found.now)) out.new result }
 {
     let mut at: usize = 0;
-    let mut j: usize = 0;
-    while j < n {
+    for j in 0..n {
         at = put_tuple(out, at, sentence, found, j * k, k);
-        j += 1;
     }
     at
 }
@@ -107,62 +97,15 @@ fn put_ending(out: &mut [u8], at: usize, e: Ending) -> usize
 }
 
 // The line after a sentence.
-pub(crate) fn put_end(
-    out: &mut [u8],
-    at: usize,
-    sentence: u64,
-    e: Ending,
-    tuples: usize,
-    used: u64,
-) -> usize
+pub(crate) fn put_end(out: &mut [u8], at: usize, sentence: u64, listing: Listing) -> usize
     requires { at + 72 ≤ length out.old }
-    ensures { Wrote out.old at 72 (ending_line sentence e tuples used) out.new result }
+    ensures { Wrote out.old at 72 (ending_line sentence listing.ending listing.tuples listing.strikings) out.new result }
 {
     let word = put_decimal(out, at, sentence);
-    let a = put_ending(out, word, e);
-    let b = put_number(out, a, tuples as u64);
-    let c = put_number(out, b, used);
+    let a = put_ending(out, word, listing.ending);
+    let b = put_number(out, a, listing.tuples as u64);
+    let c = put_number(out, b, listing.strikings);
     put_byte(out, c, b'\n')
-}
-
-fn number_of(r: Refusal) -> u64
-    ensures { result ≡ number r }
-{
-    match r {
-        Refusal::Columns => 1,
-        Refusal::PostNumbers => 2,
-        Refusal::ThreeRows => 3,
-        Refusal::Counts => 4,
-        Refusal::Variables => 5,
-        Refusal::Axes => 6,
-        Refusal::EmptyHead => 7,
-        Refusal::Tuple => 8,
-        Refusal::ShortBuffer => 9,
-        Refusal::QueryText(_) => 10,
-        Refusal::Brackets(_) => 11,
-        Refusal::TooLarge(_) => 12,
-        Refusal::HeadVariable => 13,
-    }
-}
-
-fn place_of(r: Refusal) -> usize
-    ensures { result ≡ place r }
-{
-    match r {
-        Refusal::Columns => 0,
-        Refusal::PostNumbers => 0,
-        Refusal::ThreeRows => 0,
-        Refusal::Counts => 0,
-        Refusal::Variables => 0,
-        Refusal::Axes => 0,
-        Refusal::EmptyHead => 0,
-        Refusal::Tuple => 0,
-        Refusal::ShortBuffer => 0,
-        Refusal::QueryText(p) => p,
-        Refusal::Brackets(p) => p,
-        Refusal::TooLarge(p) => p,
-        Refusal::HeadVariable => 0,
-    }
 }
 
 // The line of a refusal.
@@ -172,7 +115,7 @@ pub(crate) fn put_refusal(out: &mut [u8], sentence: u64, r: Refusal) -> usize
 {
     let a = put_decimal(out, 0, sentence);
     let b = put_word(out, a, b" refused");
-    let c = put_number(out, b, number_of(r));
-    let d = put_number(out, c, place_of(r) as u64);
+    let c = put_number(out, b, r.number() as u64);
+    let d = put_number(out, c, r.place() as u64);
     put_byte(out, d, b'\n')
 }

@@ -4,26 +4,28 @@
 mod lines;
 mod step;
 
-ghost use Rattle.std.specs.Prelude.{◌≡◌, ◌≤◌, length, take, drop};
+ghost use Rattle.std.specs.Prelude.{◌≡◌, ◌==◌, ◌≤◌, length, take, drop, position};
 ghost use Rattle.meaning.specs.Run.{query_text_of, behind};
 
 use crate::lines::put_refusal;
 use crate::step::{SentenceStep, do_sentence};
-use meaning::{Query, QueryTextAnswer, SentenceAnswer};
+use meaning::{Query, SentenceReading};
+
+// The place of the text's first full stop.
+fn full_stop(text: &[u8]) -> Option<usize>
+    ensures { result ≡ position (λ b. b == 46) text.now }
+{
+    text.iter().position(|b| *b == b'.')
+}
 
 // Where the query text ends: behind the first full stop, or at the end of the text.
 fn query_end(text: &[u8]) -> usize
     ensures { (result ≤ length text.now) × (take result text.now ≡ query_text_of text.now) × (drop result text.now ≡ behind text.now) }
 {
-    let mut i: usize = 0;
-    while i < text.len() {
-        let b = text[i];
-        i += 1;
-        if b == b'.' {
-            return i;
-        }
+    match full_stop(text) {
+        Some(stop) => stop + 1,
+        None => text.len(),
     }
-    i
 }
 
 // The first n bytes go to standard output.
@@ -58,8 +60,7 @@ fn print_sentences(text: &[u8], q: Query, names: &[u8]) {
             }
             SentenceStep::Next(n, end) => {
                 print(&out, n);
-                let rest = pouchmeadow::rest(left, SentenceAnswer::Read(1, end));
-                left = rest;
+                left = pouchmeadow::rest(left, Ok(SentenceReading { rows: 1, end }));
                 sentence += 1;
             }
         }
@@ -71,14 +72,13 @@ fn run(input: &[u8]) {
     let end = query_end(input);
     let mut names = [0u8; 544];
     let r = pouchmeadow::read_query(&input[..end], &mut names);
-    let answer = r.answer;
-    match answer {
-        QueryTextAnswer::Refused(why) => {
+    match r {
+        Ok(reading) => print_sentences(&input[end..], reading.query, &names[..reading.bytes]),
+        Err(why) => {
             let mut out = [0u8; 262144];
             let n = put_refusal(&mut out, 0, why);
             print(&out, n);
         }
-        QueryTextAnswer::Read(n) => print_sentences(&input[end..], r.query, &names[..n]),
     }
 }
 

@@ -8,7 +8,7 @@ ghost use Rattle.search.specs.Wrote.{chunks};
 ghost use Rattle.search.specs.Steps.{Leaves, Does};
 
 use crate::lines::{put_end, put_refusal, put_tuples};
-use meaning::{Ending, ListAnswer, Query, SentenceAnswer};
+use meaning::{Listing, Query};
 
 // What a sentence did: the bytes of its lines, and where its text ends; or the bytes of the last line of the run.
 #[derive(Drop)]
@@ -24,15 +24,13 @@ fn put_listing(
     sentence: u64,
     found: &[u16; 4096],
     k: usize,
-    e: Ending,
-    tuples: usize,
-    used: u64,
+    listing: Listing,
 ) -> usize
-    requires { (1 ≤ k) × (tuples * k ≤ 4096) }
-    ensures { (result ≡ length (tuple_lines sentence (chunks k tuples found.now) ++ ending_line sentence e tuples used)) × (out.new ≡ at_front (tuple_lines sentence (chunks k tuples found.now) ++ ending_line sentence e tuples used) out.old) }
+    requires { (1 ≤ k) × (listing.tuples * k ≤ 4096) }
+    ensures { (result ≡ length (tuple_lines sentence (chunks k listing.tuples found.now) ++ ending_line sentence listing.ending listing.tuples listing.strikings)) × (out.new ≡ at_front (tuple_lines sentence (chunks k listing.tuples found.now) ++ ending_line sentence listing.ending listing.tuples listing.strikings) out.old) }
 {
-    let at = put_tuples(out, sentence, found, k, tuples);
-    put_end(out, at, sentence, e, tuples, used)
+    let at = put_tuples(out, sentence, found, k, listing.tuples);
+    put_end(out, at, sentence, listing)
 }
 
 // A sentence that was read, up to `end`, into these columns. What the sets and the rows found held before does not matter.
@@ -50,12 +48,11 @@ fn list_sentence(
 {
     let a = answers::list_answers(post, label, q, 1000000, sets, found);
     match a {
-        ListAnswer::Listed(e, tuples, used) => {
-            let k = q.head_count;
-            let bytes = put_listing(out, sentence, found, k, e, tuples, used);
+        Ok(listing) => {
+            let bytes = put_listing(out, sentence, found, q.head_count, listing);
             SentenceStep::Next(bytes, end)
         }
-        ListAnswer::Refused(r) => {
+        Err(r) => {
             let bytes = put_refusal(out, sentence, r);
             SentenceStep::Last(bytes)
         }
@@ -83,11 +80,11 @@ pub(crate) fn do_sentence(
     }
     let a = pouchmeadow::read_sentence(text, names, post, label);
     match a {
-        SentenceAnswer::Read(rows, end) => {
+        Ok(read) => {
             list_sentence(
-                &post[..rows],
-                &label[..rows],
-                end,
+                &post[..read.rows],
+                &label[..read.rows],
+                read.end,
                 sentence,
                 q,
                 sets,
@@ -95,7 +92,7 @@ pub(crate) fn do_sentence(
                 out,
             )
         }
-        SentenceAnswer::Refused(r) => {
+        Err(r) => {
             let bytes = put_refusal(out, sentence, r);
             SentenceStep::Last(bytes)
         }

@@ -1,47 +1,35 @@
 // Each function of sets against a plain loop over rows. Writes a line for each group of checks: 0 where all is right.
 #![tactic(auto)]
 
+mod asked;
 mod rows;
+mod trial;
 
-fn say(n: u64) {
-    io::print_decimal(1, n);
-    io::write_all(1, b"\n");
-}
+use trial::Trial;
 
 fn say_right(right: bool) {
-    if right {
-        say(0);
-    } else {
-        say(1);
-    }
+    io::print_decimal(1, u64::from(!right));
+    io::write_all(1, b"\n");
 }
 
 // A set of n rows in a buffer of 24 words, its words from word `at` on: filled, emptied, changed row by row, held to a mask.
 fn set_of(n: usize, at: usize) {
-    let mut s = [0u64; 24];
-    let mut mask = [0u64; 24];
-    let mut keys = [0u32; 1024];
-    rows::set_keys(&mut keys);
-    rows::set_mask(&mut mask, n);
-    say_right(rows::fills(&mut s, at, n, &keys));
-    say_right(rows::empties(&mut s, at, n, &keys));
-    say_right(rows::adds(&mut s, at, n, &keys));
-    say_right(rows::strikes(&mut s, at, n, &keys));
-    say_right(rows::keeps(&mut s, at, n, &mask, &keys));
+    let mut set = Trial::new(n, at);
+    say_right(set.fills());
+    say_right(set.empties());
+    say_right(set.adds());
+    say_right(set.strikes());
+    say_right(set.keeps());
 }
 
 // The same held to a label and to the rows above a key, and cleared.
 fn labels_of(n: usize, at: usize) {
-    let mut s = [0u64; 24];
-    let mut label = [0u16; 1024];
-    let mut keys = [0u32; 1024];
-    rows::set_labels(&mut label);
-    rows::set_keys(&mut keys);
-    say_right(rows::starts(&mut s, at, n));
-    say_right(rows::adds_last(&mut s, at, n, &keys));
-    say_right(rows::keeps_label(&mut s, at, n, &label, &keys));
-    say_right(rows::keeps_after(&mut s, at, n, &keys));
-    say_right(rows::clears(&mut s, rows::width(n)));
+    let mut set = Trial::new(n, at);
+    say_right(set.starts());
+    say_right(set.adds_last());
+    say_right(set.keeps_label());
+    say_right(set.keeps_after());
+    say_right(set.clears());
 }
 
 fn sets_of(n: usize, at: usize) {
@@ -50,27 +38,22 @@ fn sets_of(n: usize, at: usize) {
 }
 
 // Ranges that are empty, that end or begin at a word's first or last row, and the longest.
-fn range_of(a: usize, b: usize) {
-    let mut s = [0u64; 24];
-    say_right(rows::adds_range(&mut s, a, b));
-}
-
 fn ranges() {
-    range_of(0, 0);
-    range_of(1024, 1024);
-    range_of(64, 64);
-    range_of(0, 1);
-    range_of(1023, 1024);
-    range_of(63, 64);
-    range_of(63, 65);
-    range_of(64, 128);
-    range_of(65, 191);
-    range_of(0, 1024);
-    range_of(127, 1000);
+    say_right(trial::adds_range(0, 0));
+    say_right(trial::adds_range(1024, 1024));
+    say_right(trial::adds_range(64, 64));
+    say_right(trial::adds_range(0, 1));
+    say_right(trial::adds_range(1023, 1024));
+    say_right(trial::adds_range(63, 64));
+    say_right(trial::adds_range(63, 65));
+    say_right(trial::adds_range(64, 128));
+    say_right(trial::adds_range(65, 191));
+    say_right(trial::adds_range(0, 1024));
+    say_right(trial::adds_range(127, 1000));
 }
 
 fn main() {
-    say_right(rows::widths());
+    say_right(trial::widths());
     sets_of(1, 0);
     sets_of(1, 23);
     sets_of(63, 3);

@@ -1,45 +1,22 @@
 -- Why the table check is right: the size, the post numbers, the tree by the ends of its rows, and the answer. Assumes nothing.
-use mathlib.Core.Path.{◌≡◌, refl, sym, ap, ◌∙◌}
-use mathlib.Core.Bool.{Bool, true, false, false≢true}
-use mathlib.Core.Logic.{⊎_elim}
-use mathlib.Core.List.{List}
-use Prim.Native.Nat.{ℕ, suc, ◌+◌, ◌-◌, ◌≤◌, ◌<◌}
-use native.Mathlib.Omega.{arith}
-use native.Mathlib.Numerals.{add-one}
-use lib.Dec.{ltb, eqb}
-use lib.ListN.{length, get_or, set}
-use lib.Seq.{get_or-set_same, get_or-set_other}
-use borrow.Author.Tests.{ltb-true, eqb-true, eqb-false, lt-ltb, eq-eqb}
+use Rattle.std.proofs.Common.{◌≡◌, refl, sym, ap, ◌∙◌, Bool, true, false, ⊎_elim, List, Ok, Err, ℕ, suc, ◌+◌, ◌-◌, ◌≤◌, ◌<◌, ltb, eqb, length, get_or, set, get_or-set_same, get_or-set_other, add-one, arith, ltb-true, eqb-true, lt-ltb, eq-eqb}
+use Rattle.std.proofs.lemmas.Bool.{cases_lt, false≢true, eqb-false}
 use Rattle.meaning.specs.Tests.{Is, ◌&◌, ◌or◌, non, every, some}
 use Rattle.meaning.specs.Table.{post, is_sized, is_numbered, is_nested, is_tree}
 use Rattle.meaning.specs.Entries.{lowest, table_grounds, table_says, table_answer}
 use Rattle.meaning.specs.declared.Refusal.TheVariants.{Columns, PostNumbers, ThreeRows}
-use Rattle.meaning.specs.declared.TableAnswer.TheVariants.{Tree as Accept, Refused}
 use Rattle.theory.specs.Tests.{and_l, and_r, and_in, not_is, is_not, not_so, below_suc, every-at, every_in, same_test, some_is, some_in, count_same}
 use Rattle.theory.specs.Trees.{Tree, tree_is, tree_in, under_is}
 use Rattle.table.specs.Rows.{is_once, Stays}
-use Rattle.table.proofs.Stack.{compare, Open, each_now, taken_now, above}
+use Rattle.table.proofs.Stack.{Open, each_now, taken_now, above}
 
 -- ---- equal columns of 1 to 1,024 rows
 
-module _ (t labels : List ℕ) where
-  pub sized_columns : (length t ≡ length labels → ⊥) → false ≡ is_sized t labels
-  unfolding is_sized
-  sized_columns h = sym (not_so _ (λ e. h (eqb-true _ _ (and_l _ _ e))))
-
-  pub sized_none : length t ≡ 0 → false ≡ is_sized t labels
-  unfolding is_sized
-  sized_none h = sym (not_so _ (λ e. omega (arith, ltb-true 0 (length t) (and_l _ _ (and_r _ _ e)))))
-
-  pub sized_so : length t ≡ length labels → (length t ≡ 0 → ⊥) → ltb (length t) 1025 ≡ is_sized t labels
-  unfolding is_sized ◌&◌
-  sized_so h k = rw (eq-eqb (length t) (length labels) h, lt-ltb 0 (length t) (omega arith))
-
-  pub sized_is : Is (is_sized t labels) → (0 < length t) × (length t ≤ 1024)
-  unfolding is_sized
-  sized_is h =
-      let l = ltb-true (length t) 1025 (and_r _ _ (and_r _ _ h)) in
-      (ltb-true 0 (length t) (and_l _ _ (and_r _ _ h)), omega arith)
+pub sized_is : (t labels : List ℕ) → Is (is_sized t labels) → (0 < length t) × (length t ≤ 1024)
+unfolding is_sized
+sized_is t labels h =
+    let l = ltb-true (length t) 1025 (and_r _ _ (and_r _ _ h)) in
+    (ltb-true 0 (length t) (and_l _ _ (and_r _ _ h)), omega arith)
 
 -- ---- no post number twice
 
@@ -106,16 +83,6 @@ module _ (t : List ℕ) where
       let g : get_or seen (post t i) false ≡ true = ap (λ (y : ℕ). get_or seen y false) (sym e) ∙ f in
       once-again i m (sym (seen_at i seen h (post t i) (omega arith)) ∙ g)
 
--- rule 2: that, and row 0
-module _ (t : List ℕ) where
-  pub numbered_not : false ≡ is_once t → false ≡ is_numbered t
-  unfolding is_once is_numbered ◌&◌
-  numbered_not h = rw (← h)
-
-  pub numbered_so : (x : ℕ) → true ≡ is_once t → x ≡ post t 0 → eqb (x + 1) (length t) ≡ is_numbered t
-  unfolding is_once is_numbered ◌&◌
-  numbered_so x h e = rw (← h, e, add-one)
-
 -- ---- a tree: the ends of the rows
 
 -- each number below n is the post number of a row
@@ -152,7 +119,7 @@ module _ (t ends : List ℕ) (i count stay : ℕ) (O : Open t i ends count) (S :
 
   -- of a row that ends behind its parent, the parent has the same post number, or they and the row that is closed next break the rule
   pub end-behind : get_or ends (stay - 1) 0 < post t i + stay → false ≡ is_tree t
-  end-behind h = tree_not t (λ T. ⊎_elim (λ u. broken T u (onto t T (i - stay) (omega arith))) (λ u. T.once p.0 i p.1 l (omega (arith, u, p.2, h, S.root))) (compare (post t p.0) (post t i)))
+  end-behind h = tree_not t (λ T. ⊎_elim (λ u. broken T u (onto t T (i - stay) (omega arith))) (λ u. T.once p.0 i p.1 l (omega (arith, u, p.2, h, S.root))) (cases_lt (post t p.0) (post t i)))
     where
       p : (r : ℕ) × (r < i) × (post t r + (stay - 1) ≡ get_or ends (stay - 1) 0)
       p = O.rows (stay - 1) (omega (arith, S.root, S.most))
@@ -171,8 +138,8 @@ module _ (t ends : List ℕ) (i count stay : ℕ) (O : Open t i ends count) (S :
           (λ m. ⊎_elim
           (λ n. T.nested p.0 i w.0 p.1 n w.1 (omega (arith, w.2, p.2, S.last, S.root, S.most, O.most)) u)
           (λ n. omega (arith, ap (post t) (let e : w.0 ≡ i = omega arith in e), w.2, u, p.2, S.last, S.root, S.most, O.most))
-          (compare i w.0))
-          (compare w.0 i)
+          (cases_lt i w.0))
+          (cases_lt w.0 i)
 
 -- a tree keeps both rules, and what is no tree breaks the second where it keeps the first
 pub tree_both : (t : List ℕ) → true ≡ is_tree t → (true ≡ is_numbered t) × (true ≡ is_nested t)
@@ -186,18 +153,18 @@ not_nested t h k = h ∙ rw (← k)
 -- ---- the answer of the check
 
 module _ (t labels : List ℕ) where
-  pub refused_1 : false ≡ is_sized t labels → Refused Columns ≡ table_answer t labels
+  pub refused_1 : false ≡ is_sized t labels → Err Columns ≡ table_answer t labels
   unfolding table_answer table_says lowest table_grounds non
   refused_1 h = rw (← h)
 
-  pub refused_2 : true ≡ is_sized t labels → false ≡ is_numbered t → Refused PostNumbers ≡ table_answer t labels
+  pub refused_2 : true ≡ is_sized t labels → false ≡ is_numbered t → Err PostNumbers ≡ table_answer t labels
   unfolding table_answer table_says lowest table_grounds non
   refused_2 h k = rw (← h, ← k)
 
-  pub refused_3 : true ≡ is_sized t labels → true ≡ is_numbered t → false ≡ is_nested t → Refused ThreeRows ≡ table_answer t labels
+  pub refused_3 : true ≡ is_sized t labels → true ≡ is_numbered t → false ≡ is_nested t → Err ThreeRows ≡ table_answer t labels
   unfolding table_answer table_says lowest table_grounds non
   refused_3 h k m = rw (← h, ← k, ← m)
 
-  pub accepted : true ≡ is_sized t labels → true ≡ is_numbered t → true ≡ is_nested t → Accept ≡ table_answer t labels
+  pub accepted : true ≡ is_sized t labels → true ≡ is_numbered t → true ≡ is_nested t → Ok tt ≡ table_answer t labels
   unfolding table_answer table_says lowest table_grounds non
   accepted h k m = rw (← h, ← k, ← m)

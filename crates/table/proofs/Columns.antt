@@ -1,18 +1,13 @@
 -- Why the columns of levels, parents and keys are right. Assumes nothing.
-use mathlib.Core.Path.{◌≡◌, refl, sym, ap, ◌∙◌, subst}
-use mathlib.Core.Logic.{◌⊎◌, inl, inr, ⊎_elim}
-use mathlib.Core.List.{List}
-use Prim.Native.Nat.{ℕ, zero, suc, ◌+◌, ◌*◌, ◌≤◌, ◌<◌}
-use native.Mathlib.Omega.{arith}
-use lib.ListN.{length, get_or, set, length-set}
-use lib.Seq.{get_or-set_other, ext_get_or}
+use Rattle.std.proofs.Common.{◌≡◌, refl, sym, ap, ◌∙◌, subst, ◌⊎◌, inl, inr, ⊎_elim, List, ℕ, zero, suc, ◌+◌, ◌*◌, ◌≤◌, ◌<◌, length, get_or, set, length-set, get_or-set_other, ext_get_or, arith}
+use Rattle.std.proofs.lemmas.Bool.{cases_lt}
+use Rattle.std.proofs.lemmas.Grind.{get_or-set_at}
 use Rattle.meaning.specs.Tests.{Is}
 use Rattle.meaning.specs.Table.{post, below, child, level}
 use Rattle.meaning.specs.Axes.{key}
 use Rattle.theory.specs.Tests.{not_so, below_suc, count_none, count_most}
 use Rattle.theory.specs.Trees.{Tree, below_is, below_in, below-between, child_is, nearest_child}
 use Rattle.table.specs.Rows.{Filled, LevelOf}
-use Rattle.table.proofs.Stack.{compare, set_new}
 
 -- ---- columns that are filled
 
@@ -26,7 +21,7 @@ module _ (from : ℕ) (Fits : ℕ → ℕ → Type 0) where
     filled = λ r u w.
         ⊎_elim
         (λ m. subst (Fits r) (sym (other r (λ e. omega arith))) (F.filled r u m))
-        (λ e. subst (Fits r) (sym (set_new after i r v e (omega (arith, F.size)))) (subst (λ (x : ℕ). Fits x v) (sym e) h))
+        (λ e. subst (Fits r) (sym (get_or-set_at after i r v 0 e (omega (arith, F.size)))) (subst (λ (x : ℕ). Fits x v) (sym e) h))
         (below_suc {k = r} {n = i} (omega arith));
     others = λ r u.
         ⊎_elim (λ m. other r (λ e. omega arith) ∙ F.others r (inl m)) (λ m. other r (λ e. omega arith) ∙ F.others r (inr (omega arith))) u;
@@ -44,14 +39,14 @@ module _ (from : ℕ) (Fits : ℕ → ℕ → Type 0) where
       ext_get_or 0 x y (X.size ∙ sym Y.size)
       (λ r l. ⊎_elim
       (λ m. X.others r (inl m) ∙ sym (Y.others r (inl m)))
-      (λ m. ⊎_elim (λ k. one r _ _ k (X.filled r m k) (Y.filled r m k)) (λ k. X.others r (inr k) ∙ sym (Y.others r (inr k))) (compare r n))
-      (compare r from))
+      (λ m. ⊎_elim (λ k. one r _ _ k (X.filled r m k) (Y.filled r m k)) (λ k. X.others r (inr k) ∙ sym (Y.others r (inr k))) (cases_lt r n))
+      (cases_lt r from))
 
 -- the first place was written before, the others then
 pub filled_first : (Fits : ℕ → ℕ → Type 0) (n v : ℕ) (before after : List ℕ) → 0 < n → Fits 0 (get_or after 0 0) → Filled 1 n Fits (set before 0 v) after → Filled 0 n Fits before after
 filled_first Fits n v before after l h F = record {
   size = F.size ∙ length-set before 0 v;
-  filled = λ r u w. ⊎_elim (λ m. F.filled r m w) (λ m. let e : r ≡ 0 = omega arith in subst (λ (k : ℕ). Fits k (get_or after k 0)) (sym e) h) (compare 0 r);
+  filled = λ r u w. ⊎_elim (λ m. F.filled r m w) (λ m. let e : r ≡ 0 = omega arith in subst (λ (k : ℕ). Fits k (get_or after k 0)) (sym e) h) (cases_lt 0 r);
   others = λ r u. ⊎_elim (λ m. absurd (omega arith)) (λ m. F.others r (inr m) ∙ get_or-set_other before 0 r v 0 (λ e. omega arith)) u;
 }
 
@@ -64,11 +59,11 @@ Passed t i p = (z : ℕ) → p < z → z < i → post t z < post t i
 module _ (t : List ℕ) (T : Tree t) (i p : ℕ) (low : p < i) (high : i < length t) (N : Passed t i p) where
   -- no post number is larger than that of row 0
   pub not_root : post t p < post t i → 0 < p
-  not_root h = ⊎_elim (λ m. m) (λ m. let e : p ≡ 0 = omega arith in absurd (omega (arith, T.root, T.below i high, ap (post t) e))) (compare 0 p)
+  not_root h = ⊎_elim (λ m. m) (λ m. let e : p ≡ 0 = omega arith in absurd (omega (arith, T.root, T.below i high, ap (post t) e))) (cases_lt 0 p)
 
   -- nor do the rows between p and its parent come into question: their post numbers are smaller than that of p
   pub passed_on : (v : ℕ) → Is (child t v p) → post t p < post t i → Passed t i v
-  passed_on v C h z l m = ⊎_elim (λ a. ⊎_elim (λ b. inner a b) (λ b. omega arith) (compare (post t p) (post t z))) (λ a. outer (compare p z) a) (compare z p)
+  passed_on v C h z l m = ⊎_elim (λ a. ⊎_elim (λ b. inner a b) (λ b. omega arith) (cases_lt (post t p) (post t z))) (λ a. outer (cases_lt p z) a) (cases_lt z p)
     where
       inner : z < p → post t p < post t z → post t z < post t i
       inner a b = absurd ((child_is t v p C).1 z (omega arith) (below-between t T v z p l a (omega arith) (child_is t v p C).0) (below_in t z p a b))
@@ -92,7 +87,7 @@ level_root t = count_none (length t) (λ z. below t z 0) (λ k l. not_so _ (λ h
 -- the levels of the rows before row n, with row 0
 pub level-at : (t : List ℕ) (n : ℕ) (before after : List ℕ) → Filled 1 n (LevelOf t) before after → get_or after 0 0 ≡ level t 0 → (p : ℕ) → p < n → get_or after p 0 ≡ level t p
 level-at t n before after F z p l =
-    ⊎_elim (λ m. F.filled p m l) (λ m. let e : p ≡ 0 = omega arith in ap (λ (k : ℕ). get_or after k 0) e ∙ (z ∙ ap (level t) (sym e))) (compare 0 p)
+    ⊎_elim (λ m. F.filled p m l) (λ m. let e : p ≡ 0 = omega arith in ap (λ (k : ℕ). get_or after k 0) e ∙ (z ∙ ap (level t) (sym e))) (cases_lt 0 p)
 
 -- ---- keys
 
@@ -103,16 +98,12 @@ module _ (t : List ℕ) (r : ℕ) where
   key_pre (suc zero) l = refl
   key_pre (suc (suc s)) l = absurd (omega arith)
 
-  pub key-post : (s : ℕ) → s ≡ 2 → post t r ≡ key s t r
+  pub key-level : (s x : ℕ) → 2 < s → x ≡ level t r → x * 1024 + r ≡ key s t r
   unfolding key
-  key-post s e = rw e
-
-  pub key-level : (s x : ℕ) → 2 ≤ s → (s ≡ 2 → ⊥) → x ≡ level t r → x * 1024 + r ≡ key s t r
-  unfolding key
-  key-level zero x l n e = absurd (omega arith)
-  key-level (suc zero) x l n e = absurd (omega arith)
-  key-level (suc (suc zero)) x l n e = absurd (n refl)
-  key-level (suc (suc (suc s))) x l n e = rw e
+  key-level zero x l e = absurd (omega arith)
+  key-level (suc zero) x l e = absurd (omega arith)
+  key-level (suc (suc zero)) x l e = absurd (omega arith)
+  key-level (suc (suc (suc s))) x l e = rw e
 
 pub level_most : (t : List ℕ) (r : ℕ) → level t r ≤ length t
 unfolding level

@@ -1,34 +1,25 @@
 -- What callers know of an accepted table and of its columns of levels, parents and keys: each axis by these columns, and the
 -- rows below a row as the rows after it. Assumes nothing.
-use mathlib.Core.Path.{◌≡◌, refl, sym, ◌∙◌, subst}
-use mathlib.Core.Bool.{Bool, true, false, false≢true}
-use mathlib.Core.Logic.{inl, inr, ⊎_elim}
-use mathlib.Core.List.{List}
-use Prim.Native.Nat.{ℕ, ◌+◌, ◌≤◌, ◌<◌}
-use native.Mathlib.Omega.{arith}
-use lib.Dec.{ltb, eqb}
-use lib.ListN.{length, get_or}
-use borrow.Author.Tests.{ltb-true, eqb-true, lt-ltb, eq-eqb}
+use Rattle.std.proofs.Common.{◌≡◌, refl, sym, ◌∙◌, subst, Bool, true, false, inl, inr, ⊎_elim, List, Ok, Err, ℕ, ◌+◌, ◌≤◌, ◌<◌, ltb, eqb, length, get_or, arith, ltb-true, eqb-true, lt-ltb, eq-eqb}
+use Rattle.std.proofs.lemmas.Bool.{cases_lt, false≢true}
 use Rattle.meaning.specs.Tests.{Is, ◌&◌, non, one, count}
 use Rattle.meaning.specs.Table.{post, is_sized, is_numbered, is_nested, is_tree, below, child, later, next, level}
 use Rattle.meaning.specs.Entries.{table_answer}
 use Rattle.meaning.specs.declared.Refusal.{Refusal}
-use Rattle.meaning.specs.declared.TableAnswer.TheVariants.{Tree as Accept, Refused}
 use Rattle.theory.specs.Tests.{and_l, and_r, and_in, not_is, is_not, same_test, some_is, count_le, count_split, one_of}
 use Rattle.theory.specs.Trees.{Tree, below_is, below_in, child_is, child_in, later_is, later_in, next_is, below-between, level-child, under_is, post_is, one_parent}
-use Rattle.table.specs.Rows.{Accepted, Filled, LevelOf, ParentOf, KeyOf, HasLevels, HasParents, is_parent, is_later, is_next}
-use Rattle.table.proofs.Stack.{compare}
+use Rattle.table.specs.Rows.{Accepted, Filled, LevelOf, ParentOf, KeyOf, HasLevels, HasParents, Columns, is_parent, is_later, is_next}
 use Rattle.table.proofs.Check.{sized_is, refused_1, refused_2, refused_3}
 use Rattle.table.proofs.Columns.{filled-same}
 
 module _ (t labels : List ℕ) where
   -- what a caller knows of a table that the check took
-  pub accepted_is : table_answer t labels ≡ Accept → Accepted t
+  pub accepted_is : table_answer t labels ≡ Ok tt → Accepted t
   unfolding is_tree
   accepted_is e = go (is_sized t labels) refl (is_numbered t) refl (is_nested t) refl
     where
-      no : {r : Refusal} → table_answer t labels ≡ Refused r → Accepted t
-      no f = absurd (let z : ◌≡◌ {A = ℕ} 0 1 = cc in omega arith)
+      no : {r : Refusal} → table_answer t labels ≡ Err r → Accepted t
+      no f = cc
 
       go : (a : Bool) → is_sized t labels ≡ a → (b : Bool) → is_numbered t ≡ b → (c : Bool) → is_nested t ≡ c → Accepted t
       go false ea b eb c ec = no (sym (refused_1 t labels (sym ea)))
@@ -44,6 +35,11 @@ levels_filled t before after h F = record { room = omega (arith, F.size); each =
 
 pub parents_filled : (t before after : List ℕ) → length t ≤ length before → Filled 1 (length t) (ParentOf t) before after → HasParents t after
 parents_filled t before after h F = record { room = omega (arith, F.size); each = λ r k l. F.filled r k l }
+
+-- the columns that `fill_columns` leaves
+pub columns_filled : (t parents levels parents' levels' : List ℕ) → Accepted t → length t ≤ length parents → length t ≤ length levels →
+    Filled 1 (length t) (ParentOf t) parents parents' × Filled 0 (length t) (LevelOf t) levels levels' → Columns t parents' levels'
+columns_filled t parents levels parents' levels' a h k F = record { accepted = a; has_parents = parents_filled t parents parents' h F.0; has_levels = levels_filled t levels levels' k F.1 }
 
 child-after : (t : List ℕ) (p q : ℕ) → Is (child t p q) → p < q
 child-after t p q h = (below_is t p q (child_is t p q h).0).0
@@ -76,7 +72,7 @@ between-count n a b l h =
     each : (k : ℕ) → k < n → one (ltb k b) ≡ one (ltb k (a + 1)) + one (ltb a k & ltb k b)
     each k m = one_of _ _ _ (λ e. lt-ltb k b (omega (arith, ltb-true k (a + 1) e))) (λ e. and_r _ _ e)
         (λ e f. omega (arith, ltb-true k (a + 1) e, ltb-true a k (and_l _ _ f)))
-        (λ e. ⊎_elim (λ u. inr (and_in _ _ (lt-ltb a k u) e)) (λ u. inl (lt-ltb k (a + 1) (omega arith))) (compare a k))
+        (λ e. ⊎_elim (λ u. inr (and_in _ _ (lt-ltb a k u) e)) (λ u. inl (lt-ltb k (a + 1) (omega arith))) (cases_lt a k))
 
 -- the rows below p are those after it, up to row post + level
 module _ (t : List ℕ) (T : Tree t) (p : ℕ) (lp : p < length t) where
@@ -93,7 +89,7 @@ module _ (t : List ℕ) (T : Tree t) (p : ℕ) (lp : p < length t) where
       sub k l e =
           let a = ltb-true p k (and_l _ _ e) in
           let b = ltb-true k (z + 1) (and_r _ _ e) in
-          ⊎_elim (λ m. below-between t T p k z a m lz h) (λ m. subst (λ (x : ℕ). Is (below t p x)) (let f : z ≡ k = omega arith in f) h) (compare k z)
+          ⊎_elim (λ m. below-between t T p k z a m lz h) (λ m. subst (λ (x : ℕ). Is (below t p x)) (let f : z ≡ k = omega arith in f) h) (cases_lt k z)
 
   pub outside : (z : ℕ) → p < z → z < length t → (Is (below t p z) → ⊥) → post t p + level t p < z
   outside z m lz h =
@@ -108,8 +104,8 @@ module _ (t : List ℕ) (T : Tree t) (p : ℕ) (lp : p < length t) where
       sub k l e =
           and_in _ _ (lt-ltb p k (below_is t p k e).0)
           (⊎_elim (λ u. lt-ltb k z u)
-          (λ u. absurd (h (⊎_elim (λ w. below-between t T p z k m w l e) (λ w. subst (λ (x : ℕ). Is (below t p x)) (let f : k ≡ z = omega arith in f) e) (compare z k))))
-          (compare k z))
+          (λ u. absurd (h (⊎_elim (λ w. below-between t T p z k m w l e) (λ w. subst (λ (x : ℕ). Is (below t p x)) (let f : k ≡ z = omega arith in f) e) (cases_lt z k))))
+          (cases_lt k z))
 
   -- and the other way round
   pub below_rows : (z : ℕ) → p < z → z < length t → z ≤ post t p + level t p → Is (below t p z)
@@ -167,8 +163,8 @@ module _ (t : List ℕ) (T : Tree t) where
           (λ u. ⊎_elim
           (λ v. let py = below_is t p y (below_rows t T p lp y v ly (omega arith)) in out (below_in t p e pe (omega arith)))
           (λ v. out (subst (λ (x : ℕ). Is (below t x e)) (let g : y ≡ p = omega arith in g) b))
-          (compare p y))
-          (compare y p)
+          (cases_lt p y))
+          (cases_lt y p)
 
   -- the next sibling is the row behind the rows below
   pub next_in : (p q : ℕ) → p < length t → q < length t → Is (later t p q) → q ≡ post t p + level t p + 1 → Is (next t p q)
@@ -189,17 +185,17 @@ module _ (t : List ℕ) (T : Tree t) where
       ⊎_elim
       (λ m. let s = sibling_behind p (post t p + level t p + 1) q lp lq refl m n.0 in absurd (n.1 (post t p + level t p + 1) (omega arith) s.0 s.1))
       (λ m. omega arith)
-      (compare (post t p + level t p + 1) q)
+      (cases_lt (post t p + level t p + 1) q)
 
   -- of the rows after p the nearer is below it where the farther is
   pub below_nearer : (p q r : ℕ) → p < q → q ≤ r → r < length t → Is (below t p r) → Is (below t p q)
   below_nearer p q r l m lr h =
-      ⊎_elim (λ u. below-between t T p q r l u lr h) (λ u. subst (λ (x : ℕ). Is (below t p x)) (let e : r ≡ q = omega arith in e) h) (compare q r)
+      ⊎_elim (λ u. below-between t T p q r l u lr h) (λ u. subst (λ (x : ℕ). Is (below t p x)) (let e : r ≡ q = omega arith in e) h) (cases_lt q r)
 
 -- ---- the axes that are read from columns
 
 not_zero : (q : ℕ) → Is (non (eqb q 0)) → 0 < q
-not_zero q h = ⊎_elim (λ l. l) (λ l. absurd (not_is _ h (eq-eqb q 0 (omega arith)))) (compare 0 q)
+not_zero q h = ⊎_elim (λ l. l) (λ l. absurd (not_is _ h (eq-eqb q 0 (omega arith)))) (cases_lt 0 q)
 
 zero_not : (q : ℕ) → 0 < q → Is (non (eqb q 0))
 zero_not q l = is_not _ (λ e. omega (arith, eqb-true q 0 e))

@@ -2,5 +2,4 @@
 pub mod Stack
 pub mod Check
 pub mod Columns
-pub mod Axes
 pub mod Laws

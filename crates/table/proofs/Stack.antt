@@ -1,42 +1,16 @@
 -- The stack of ends: what it holds of the rows passed, and what the next row changes. A row is open while rows below it may come,
 -- and closed once its end is passed. Assumes nothing.
-use mathlib.Core.Path.{◌≡◌, refl, sym, ap, ◌∙◌}
-use mathlib.Core.Bool.{Bool, true, false}
-use mathlib.Core.Logic.{◌⊎◌, inl, inr, ⊎_elim}
-use mathlib.Core.List.{List}
-use Prim.Native.Nat.{ℕ, suc, ◌+◌, ◌-◌, ◌≤◌, ◌<◌}
-use native.Mathlib.Omega.{arith}
-use lib.Dec.{ltb}
-use lib.ListN.{length, get_or, set}
-use lib.Seq.{get_or-set_same, get_or-set_other}
-use borrow.Author.Tests.{ltb-true, ltb-false}
+use Rattle.std.proofs.Common.{◌≡◌, refl, sym, ap, ◌∙◌, ◌⊎◌, inl, inr, ⊎_elim, List, ℕ, suc, ◌+◌, ◌-◌, ◌≤◌, ◌<◌, length, get_or, set, get_or-set_other, arith}
+use Rattle.std.proofs.lemmas.Bool.{cases_lt}
+use Rattle.std.proofs.lemmas.Grind.{get_or-set_at}
 use Rattle.meaning.specs.Table.{post}
 use Rattle.theory.specs.Tests.{below_suc}
 use Rattle.theory.specs.Trees.{Tree}
 use Rattle.table.specs.Rows.{Stays}
 
--- the test of two numbers, both ways
-pub compare : (a b : ℕ) → (a < b) ⊎ (b ≤ a)
-compare a b = go (ltb a b) refl
-  where
-    go : (e : Bool) → ltb a b ≡ e → (a < b) ⊎ (b ≤ a)
-    go true e = inl (ltb-true a b e)
-    go false e = inr (ltb-false a b e)
-
--- a place that was written
-pub set_new : (l : List ℕ) (i k v : ℕ) → k ≡ i → i < length l → get_or (set l i v) k 0 ≡ v
-set_new l i k v e h = ap (λ (j : ℕ). get_or (set l i v) j 0) e ∙ get_or-set_same l i v 0 h
-
 -- the rows from a place on end before row i
 abbrev pub Ended : List ℕ → ℕ → ℕ → ℕ → Type 0
 Ended ends count i stay = (k : ℕ) → stay ≤ k → k < count → get_or ends k 0 < i
-
-pub ended_more : (ends : List ℕ) (count i stay : ℕ) → Ended ends count i stay → get_or ends (stay - 1) 0 < i → Ended ends count i (stay - 1)
-ended_more ends count i stay h l k u w = ⊎_elim (λ m. let f : k ≡ stay - 1 = omega arith in rw f l) (λ m. h k m w) (compare k stay)
-
--- row 0 is not among them
-pub ended_root : (ends : List ℕ) (i stay : ℕ) → i ≤ get_or ends 0 0 → get_or ends (stay - 1) 0 < i → 0 < stay - 1
-ended_root ends i stay h l = ⊎_elim (λ m. m) (λ m. let e : stay - 1 ≡ 0 = omega arith in absurd (omega (arith, h, rw e at l))) (compare 0 (stay - 1))
 
 -- of the rows below i: the first `count` places of `ends` hold the ends of the open rows, by level; the others are closed, and have
 -- the i - count smallest post numbers
@@ -54,26 +28,6 @@ pub record Open (t : List ℕ) (i : ℕ) (ends : List ℕ) (count : ℕ) : Type 
   pub once : (a b : ℕ) → a < b → b < i → post t a ≡ post t b → ⊥
   pub nested : (a b c : ℕ) → a < b → b < c → c < i → post t c < post t a → post t a < post t b → ⊥
 
--- row 0 is open, and its end is the last row
-pub open_first : (t ends : List ℕ) → suc (post t 0) ≡ length t → 0 < length ends → Open t 1 (set ends 0 (post t 0)) 1
-open_first t ends e l = record {
-  root = omega arith;
-  most = omega arith;
-  first = omega (arith, here 0 refl, e);
-  rows = λ k m. let z : k ≡ 0 = omega arith in (0, omega arith, omega (arith, here k z, z));
-  falling = λ j k m n. absurd (omega arith);
-  later = λ k m. omega arith;
-  each = λ r m. let z : r ≡ 0 = omega arith in inr (0, omega arith, omega (arith, here 0 refl, ap (post t) z));
-  taken = λ y m. absurd (omega arith);
-  passed = λ a b m n h. absurd (omega arith);
-  small = λ r m. let z : r ≡ 0 = omega arith in omega (arith, ap (post t) z, e);
-  once = λ a b m n h. absurd (omega arith);
-  nested = λ a b c m n k. absurd (omega arith);
-}
-  where
-    here : (k : ℕ) → k ≡ 0 → get_or (set ends 0 (post t 0)) k 0 ≡ post t 0
-    here k z = set_new ends 0 k (post t 0) z l
-
 module _ (t ends : List ℕ) (i count stay : ℕ) (O : Open t i ends count) (S : Stays ends count i stay) where
   -- what row i closes
   closes : (k : ℕ) → stay ≤ k → k < count → suc (get_or ends k 0) ≡ i
@@ -83,11 +37,11 @@ module _ (t ends : List ℕ) (i count stay : ℕ) (O : Open t i ends count) (S :
   each_now r l =
       ⊎_elim
       (λ h. inl (omega (arith, h, S.most)))
-      (λ w. ⊎_elim (λ u. inr (w.0, u, w.2)) (λ u. inl (omega (arith, closes w.0 u w.1, w.2, u))) (compare w.0 stay))
+      (λ w. ⊎_elim (λ u. inr (w.0, u, w.2)) (λ u. inl (omega (arith, closes w.0 u w.1, w.2, u))) (cases_lt w.0 stay))
       (O.each r l)
 
   pub taken_now : (y : ℕ) → y + stay < i → (r : ℕ) × (r < i) × (post t r ≡ y)
-  taken_now y h = ⊎_elim (λ m. O.taken y m) (λ m. closing (i - 1 - y) (omega (arith, S.root)) (omega (arith, S.root)) (omega (arith, S.root))) (compare (y + count) i)
+  taken_now y h = ⊎_elim (λ m. O.taken y m) (λ m. closing (i - 1 - y) (omega (arith, S.root)) (omega (arith, S.root)) (omega (arith, S.root))) (cases_lt (y + count) i)
     where
       closing : (k : ℕ) → stay ≤ k → k < count → suc (y + k) ≡ i → (r : ℕ) × (r < i) × (post t r ≡ y)
       closing k u l e = let w = O.rows k l in (w.0, w.1, omega (arith, w.2, closes k u l, e))
@@ -97,12 +51,12 @@ module _ (t ends : List ℕ) (i count stay : ℕ) (O : Open t i ends count) (S :
   above k l =
       ⊎_elim
       (λ m. O.falling k (stay - 1) m (omega (arith, S.most, l)))
-      (λ m. let e : k ≡ stay - 1 = omega arith in rw e (omega arith))
-      (compare k (stay - 1))
+      (λ (m : stay - 1 ≤ k). let e : k ≡ stay - 1 = omega arith in rw e (omega arith))
+      (cases_lt k (stay - 1))
 
   module _ (end : ℕ) (is : end ≡ post t i + stay) (low : i ≤ end) (top : end ≤ get_or ends (stay - 1) 0) (room : stay < length ends) where
     new : (k : ℕ) → k ≡ stay → get_or (set ends stay end) k 0 ≡ end
-    new k e = set_new ends stay k end e room
+    new k e = get_or-set_at ends stay k end 0 e room
 
     old : (k : ℕ) → k < stay → get_or (set ends stay end) k 0 ≡ get_or ends k 0
     old k l = get_or-set_other ends stay k end 0 (λ e. omega arith)

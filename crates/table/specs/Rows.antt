@@ -45,6 +45,16 @@ pub record HasParents (t parents : List ℕ) : Type 0 where
   pub room : length t ≤ length parents
   pub each : (r : ℕ) → 0 < r → r < length t → ParentOf t r (get_or parents r 0)
 
+-- an accepted table with the columns of its parents and levels
+pub record Columns (t parents levels : List ℕ) : Type 0 where
+  pub accepted : Accepted t
+  pub has_parents : HasParents t parents
+  pub has_levels : HasLevels t levels
+
+-- the row behind those below p
+unfoldable pub end_of : List ℕ → List ℕ → ℕ → ℕ
+end_of t levels p = post t p + get_or levels p 0 + 1
+
 -- Child, NextSibling+ and NextSibling as they are read from such columns
 unfoldable pub is_parent : List ℕ → ℕ → ℕ → Bool
 is_parent parents p q = non (eqb q 0) & eqb (get_or parents q 0) p

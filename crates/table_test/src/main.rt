@@ -4,11 +4,12 @@
 mod plain;
 mod print;
 
-ghost use Rattle.std.specs.Prelude.{◌+◌, ◌<◌, ◌≤◌, length};
-ghost use Rattle.table.specs.Rows.{Accepted, HasLevels, HasParents};
+ghost use Rattle.std.specs.Prelude.{◌<◌, ◌≤◌, IsTrue, length};
+ghost use Rattle.table.specs.Rows.{Accepted, HasLevels};
 
-use meaning::{Refusal, TableAnswer};
+use meaning::{Axis, Refusal};
 use print::{line, text};
+use table::Tree;
 
 fn main() {
     examples();
@@ -18,19 +19,10 @@ fn main() {
 }
 
 // The number of the answer: 0 for a tree.
-fn number_of(a: TableAnswer) -> u64 {
-    match a {
-        TableAnswer::Tree => 0,
-        TableAnswer::Refused(r) => refusal_number(r),
-    }
-}
-
-fn refusal_number(r: Refusal) -> u64 {
-    match r {
-        Refusal::Columns => 1,
-        Refusal::PostNumbers => 2,
-        Refusal::ThreeRows => 3,
-        _ => 99,
+fn number_of(answer: Result<(), Refusal>) -> u64 {
+    match answer {
+        Ok(()) => 0,
+        Err(why) => u64::from(why.number()),
     }
 }
 
@@ -56,68 +48,69 @@ fn examples() {
 // Unequal columns, no row, and both sides of 1,024 rows: a chain and a flat tree.
 fn limits() {
     text(b"unequal columns; no row\n");
-    let two: [u16; 2] = [1, 0];
-    let one: [u16; 1] = [0];
+    let two = [1, 0];
+    let one = [0];
     line(number_of(table::check_table(&two, &one)));
     line(number_of(table::check_table(&one, &two)));
     line(checked(&one[..0]));
     text(
         b"a chain of 1,024 rows, with the sum of its levels, and of 1,025; a flat tree likewise\n",
     );
-    at_limit(true);
-    past_limit(true);
-    at_limit(false);
-    past_limit(false);
+    at_limit(set_chain);
+    at_limit(set_flat);
 }
 
-fn at_limit(chain: bool) {
-    let mut rows = [0u16; 1024];
-    fill(&mut rows, 1023, chain);
-    line(checked(&rows));
-    line(levels_of(&rows));
+fn at_limit<F: Fn(&mut [u16])>(set: F)
+    requires { F.IsAlwaysCallable set }
+{
+    let mut most = [0; 1024];
+    set(&mut most);
+    line(checked(&most));
+    line(levels_of(&most));
+    let mut more = [0; 1025];
+    set(&mut more);
+    line(checked(&more));
 }
 
-fn past_limit(chain: bool) {
-    let mut rows = [0u16; 1025];
-    fill(&mut rows, 1024, chain);
-    line(checked(&rows));
+fn narrow(x: usize) -> u16 {
+    u16::try_from(x).unwrap_or(u16::MAX)
 }
 
-// Row 0 gets the last post number; the next rows count down in a chain, and up from 0 in a flat tree.
-fn fill(post: &mut [u16], last: u16, chain: bool) {
-    let mut x = last;
-    let mut row: usize = 0;
-    while row < post.len() {
-        post[row] = x;
-        x = number_after(x, last, chain);
-        row += 1;
+// In a chain the post numbers count down to 0.
+fn set_chain(post: &mut [u16]) {
+    for (i, number) in post.iter_mut().rev().enumerate() {
+        *number = narrow(i);
     }
 }
 
-fn number_after(x: u16, last: u16, chain: bool) -> u16 {
-    if chain {
-        return std::num::wrapping_sub_u16(x, 1);
+// In a flat tree row 0 has the last post number, and the next rows count up from 0.
+fn set_flat(post: &mut [u16]) {
+    if let Some((first, others)) = post.split_first_mut() {
+        *first = narrow(others.len());
+        for (i, number) in others.iter_mut().enumerate() {
+            *number = narrow(i);
+        }
     }
-    if x == last {
-        return 0;
-    }
-    std::num::wrapping_add_u16(x, 1)
+}
+
+// Whether the check takes the column.
+#[tactic(auto, using(table::proofs::Laws::accepted_is))]
+fn is_tree(post: &[u16]) -> bool
+    ensures { IsTrue result → Accepted post.now }
+{
+    table::check_table(post, post).is_ok()
 }
 
 // The sum of the levels, 0 where the table is no tree.
 fn levels_of(post: &[u16]) -> u64 {
-    let a = table::check_table(post, post);
-    match a {
-        TableAnswer::Tree => level_sum(post),
-        TableAnswer::Refused(_) => 0,
-    }
+    if is_tree(post) { level_sum(post) } else { 0 }
 }
 
 fn level_sum(post: &[u16]) -> u64
     requires { Accepted post.now }
 {
-    let mut parents = [0u16; 1024];
-    let mut levels = [0u16; 1024];
+    let mut parents = [0; 1024];
+    let mut levels = [0; 1024];
     table::fill_columns(post, &mut parents, &mut levels);
     plain::sum(&levels)
 }
@@ -126,12 +119,12 @@ fn level_sum(post: &[u16]) -> u64
 // from what the definitions say.
 fn small_columns() {
     text(b"columns of 1 to 6 rows: columns, trees, refused 2, refused 3, differences\n");
-    columns(&mut [0u16; 1], 2);
-    columns(&mut [0u16; 2], 9);
-    columns(&mut [0u16; 3], 64);
-    columns(&mut [0u16; 4], 625);
-    columns(&mut [0u16; 5], 7776);
-    columns(&mut [0u16; 6], 117649);
+    columns(&mut [0; 1], 2);
+    columns(&mut [0; 2], 9);
+    columns(&mut [0; 3], 64);
+    columns(&mut [0; 4], 625);
+    columns(&mut [0; 5], 7776);
+    columns(&mut [0; 6], 117649);
 }
 
 fn columns(post: &mut [u16], total: usize)
@@ -141,16 +134,14 @@ fn columns(post: &mut [u16], total: usize)
     let mut twos: u64 = 0;
     let mut threes: u64 = 0;
     let mut differ: u64 = 0;
-    let mut k: usize = 0;
-    while k < total {
-        digits(post, k);
+    for k in 0..total {
+        set_digits(post, k);
         let a = checked(post);
         trees = more(trees, a == 0);
         twos = more(twos, a == 2);
         threes = more(threes, a == 3);
         differ = more(differ, a != plain::number(post));
-        differ = more(differ, axes_differ(post, a));
-        k += 1;
+        differ = more(differ, a == 0 && !axes_agree(post));
     }
     line(total as u64);
     line(trees);
@@ -160,114 +151,70 @@ fn columns(post: &mut [u16], total: usize)
 }
 
 fn more(n: u64, yes: bool) -> u64 {
-    if yes {
-        return std::num::wrapping_add_u64(n, 1);
-    }
-    n
-}
-
-fn narrow(x: usize) -> u16 {
-    if x < 65536 {
-        return x as u16;
-    }
-    0
+    n.wrapping_add(u64::from(yes))
 }
 
 // The column holds the digits of k to the base n + 1, where it has n places.
-fn digits(post: &mut [u16], k: usize)
+fn set_digits(post: &mut [u16], k: usize)
     requires { length post.old ≤ 6 }
 {
-    let n = post.len();
+    let base = post.len() + 1;
     let mut rest = k;
-    let mut i: usize = 0;
-    while i < n {
-        post[i] = narrow(rest % (n + 1));
-        rest = rest / (n + 1);
-        i += 1;
+    for digit in post {
+        *digit = narrow(rest % base);
+        rest /= base;
     }
-}
-
-fn axes_differ(post: &[u16], number: u64) -> bool {
-    if number != 0 {
-        return false;
-    }
-    !axes_agree(post)
 }
 
 // Whether every axis says of every two rows what its definition says, and the levels are right. A column that is
 // refused has none.
 fn axes_agree(post: &[u16]) -> bool {
-    let a = table::check_table(post, post);
-    match a {
-        TableAnswer::Tree => tree_agrees(post),
-        TableAnswer::Refused(_) => true,
-    }
+    !is_tree(post) || tree_agrees(post)
 }
 
 fn tree_agrees(post: &[u16]) -> bool
     requires { Accepted post.now }
 {
-    let mut levels = [0u16; 1024];
-    let mut parents = [0u16; 1024];
+    let mut levels = [0; 1024];
+    let mut parents = [0; 1024];
     table::fill_columns(post, &mut parents, &mut levels);
-    if !codes_agree(post, &parents, &levels) {
-        return false;
-    }
-    plain::levels_agree(post, &levels)
+    let tree = Tree {
+        post,
+        parents: &parents,
+        levels: &levels,
+    };
+    codes_agree(&tree) && plain::levels_agree(post, &levels)
 }
 
-fn codes_agree(post: &[u16], parents: &[u16], levels: &[u16]) -> bool
-    requires { Accepted post.now × HasParents post.now parents.now × HasLevels post.now levels.now }
-{
-    let mut code: u8 = 0;
-    while code < 7 {
-        if !rows_agree(post, parents, levels, code) {
+fn codes_agree(tree: &Tree) -> bool {
+    for code in 0..7 {
+        let Ok(axis) = Axis::try_from(code) else {
             return false;
+        };
+        for p in 0..tree.post.len() {
+            for q in 0..tree.post.len() {
+                if tree.axis_holds(axis, p, q) != plain::holds(tree.post, axis, p, q) {
+                    return false;
+                }
+            }
         }
-        code += 1;
-    }
-    true
-}
-
-fn rows_agree(post: &[u16], parents: &[u16], levels: &[u16], code: u8) -> bool
-    requires { Accepted post.now × HasParents post.now parents.now × HasLevels post.now levels.now × (code < 7) }
-{
-    let mut p: usize = 0;
-    while p < post.len() {
-        if !row_agrees(post, parents, levels, code, p) {
-            return false;
-        }
-        p += 1;
-    }
-    true
-}
-
-fn row_agrees(post: &[u16], parents: &[u16], levels: &[u16], code: u8, p: usize) -> bool
-    requires { Accepted post.now × HasParents post.now parents.now × HasLevels post.now levels.now × (code < 7) × (p < length post.now) }
-{
-    let mut q: usize = 0;
-    while q < post.len() {
-        if table::axis_holds(post, parents, levels, code, p, q) != plain::holds(post, code, p, q) {
-            return false;
-        }
-        q += 1;
     }
     true
 }
 
 // Table D: its columns, with two places behind them that stay, and its axes.
 fn sentence() {
-    let d: [u16; 10] = [9, 2, 0, 1, 8, 3, 7, 4, 6, 5];
+    let d = [9, 2, 0, 1, 8, 3, 7, 4, 6, 5];
     text(b"D: levels, parents, keys of sets 1, 2 and 3; its axes agree\n");
     show(&d);
-    line(more(0, axes_agree(&d)));
+    line(u64::from(axes_agree(&d)));
 }
 
 fn show(post: &[u16]) {
-    let a = table::check_table(post, post);
-    match a {
-        TableAnswer::Tree => show_tree(post),
-        TableAnswer::Refused(_) => text(b"refused\n"),
+    if is_tree(post) {
+        show_tree(post);
+    } else {
+        text(b"refused\n");
     }
 }
 
@@ -277,20 +224,20 @@ fn show_tree(post: &[u16])
     if 12 < post.len() {
         return;
     }
-    let mut levels = [77u16; 12];
-    let mut parents = [77u16; 12];
+    let mut levels = [77; 12];
+    let mut parents = [77; 12];
     table::fill_columns(post, &mut parents, &mut levels);
     print::column(&levels);
     print::column(&parents);
-    show_keys(1, post, &levels);
-    show_keys(2, post, &levels);
-    show_keys(3, post, &levels);
+    for set in 1..4 {
+        show_keys(set, post, &levels);
+    }
 }
 
 fn show_keys(set: u8, post: &[u16], levels: &[u16])
     requires { (length post.now ≤ 12) × HasLevels post.now levels.now }
 {
-    let mut keys = [77u32; 12];
+    let mut keys = [77; 12];
     table::fill_keys(set, post, levels, &mut keys);
-    print::keys(&keys);
+    print::column(&keys);
 }

@@ -1,100 +1,52 @@
 // The table's rules and the axes straight from their definitions, by trying every row: what the program compares with.
-ghost use Rattle.std.specs.Prelude.{◌+◌, ◌<◌, ◌≤◌, length};
+ghost use Rattle.std.specs.Prelude.{◌<◌, ◌≤◌, length};
+
+use meaning::Axis;
 
 // The number that document 01 gives a column of 1 to 1,024 rows: 0, 2 or 3.
 pub(crate) fn number(post: &[u16]) -> u64
     requires { 0 < length post.now }
 {
-    if post.len() != rows(post[0]) + 1 {
-        return 2;
+    if post.len() != usize::from(post[0]) + 1 || !once(post) {
+        2
+    } else if !nested(post) {
+        3
+    } else {
+        0
     }
-    if !once(post) {
-        return 2;
-    }
-    if !nested(post) {
-        return 3;
-    }
-    0
 }
 
+// Every post number is below the number of rows, and no earlier row has it.
 fn once(post: &[u16]) -> bool {
-    let mut r: usize = 0;
-    while r < post.len() {
-        if post.len() <= rows(post[r]) {
-            return false;
-        }
-        if before(post, r) {
-            return false;
-        }
-        r += 1;
-    }
-    true
-}
-
-// Whether an earlier row has the post number of row r.
-fn before(post: &[u16], r: usize) -> bool
-    requires { r < length post.now }
-{
-    let mut q: usize = 0;
-    while q < r {
-        if post[q] == post[r] {
-            return true;
-        }
-        q += 1;
-    }
-    false
+    post.iter().enumerate().all(|(r, number)| {
+        usize::from(*number) < post.len() && !post.iter().take(r).any(|earlier| earlier == number)
+    })
 }
 
 fn nested(post: &[u16]) -> bool {
-    let mut c: usize = 0;
-    while c < post.len() {
-        if third(post, c) {
-            return false;
+    for c in 0..post.len() {
+        for b in 0..c {
+            for a in 0..b {
+                if post[c] < post[a] && post[a] < post[b] {
+                    return false;
+                }
+            }
         }
-        c += 1;
     }
     true
 }
 
-// Whether row c is the last of three rows that break the rule.
-fn third(post: &[u16], c: usize) -> bool
-    requires { c < length post.now }
-{
-    let mut b: usize = 0;
-    while b < c {
-        if second(post, b, c) {
-            return true;
-        }
-        b += 1;
-    }
-    false
-}
-
-fn second(post: &[u16], b: usize, c: usize) -> bool
-    requires { (b < c) × (c < length post.now) }
-{
-    let mut a: usize = 0;
-    while a < b {
-        if post[c] < post[a] && post[a] < post[b] {
-            return true;
-        }
-        a += 1;
-    }
-    false
-}
-
-// An axis by its code.
-pub(crate) fn holds(post: &[u16], code: u8, p: usize, q: usize) -> bool
+pub(crate) fn holds(post: &[u16], axis: Axis, p: usize, q: usize) -> bool
     requires { (p < length post.now) × (q < length post.now) }
 {
-    match code {
-        0 => child(post, p, q),
-        1 => below(post, p, q),
-        2 => p == q || below(post, p, q),
-        3 => next(post, p, q),
-        4 => later(post, p, q),
-        5 => p == q || later(post, p, q),
-        _ => p < q && post[p] < post[q],
+    match axis {
+        Axis::Child => child(post, p, q),
+        Axis::ChildPlus => below(post, p, q),
+        Axis::ChildStar => p == q || below(post, p, q),
+        Axis::NextSibling => next(post, p, q),
+        Axis::NextSiblingPlus => later(post, p, q),
+        Axis::NextSiblingStar => p == q || later(post, p, q),
+        Axis::Following => p < q && post[p] < post[q],
     }
 }
 
@@ -107,12 +59,10 @@ fn below(post: &[u16], p: usize, q: usize) -> bool
 fn child(post: &[u16], p: usize, q: usize) -> bool
     requires { (p < length post.now) × (q < length post.now) }
 {
-    let mut z: usize = 0;
-    while z < post.len() {
+    for z in 0..post.len() {
         if below(post, p, z) && below(post, z, q) {
             return false;
         }
-        z += 1;
     }
     below(post, p, q)
 }
@@ -120,12 +70,10 @@ fn child(post: &[u16], p: usize, q: usize) -> bool
 fn later(post: &[u16], p: usize, q: usize) -> bool
     requires { (p < length post.now) × (q < length post.now) }
 {
-    let mut z: usize = 0;
-    while z < post.len() {
+    for z in 0..post.len() {
         if child(post, z, p) && child(post, z, q) {
             return p < q;
         }
-        z += 1;
     }
     false
 }
@@ -133,12 +81,10 @@ fn later(post: &[u16], p: usize, q: usize) -> bool
 fn next(post: &[u16], p: usize, q: usize) -> bool
     requires { (p < length post.now) × (q < length post.now) }
 {
-    let mut z: usize = 0;
-    while z < post.len() {
+    for z in 0..post.len() {
         if later(post, p, z) && later(post, z, q) {
             return false;
         }
-        z += 1;
     }
     later(post, p, q)
 }
@@ -147,46 +93,21 @@ fn next(post: &[u16], p: usize, q: usize) -> bool
 pub(crate) fn levels_agree(post: &[u16], levels: &[u16]) -> bool
     requires { length post.now ≤ length levels.now }
 {
-    let mut r: usize = 0;
-    while r < post.len() {
-        if level(post, r) != wide(levels[r]) {
+    for r in 0..post.len() {
+        if level(post, r) != usize::from(levels[r]) {
             return false;
         }
-        r += 1;
     }
     true
 }
 
-fn level(post: &[u16], r: usize) -> u64
+fn level(post: &[u16], r: usize) -> usize
     requires { r < length post.now }
 {
-    let mut above: u64 = 0;
-    let mut z: usize = 0;
-    while z < post.len() {
-        if below(post, z, r) {
-            above = std::num::wrapping_add_u64(above, 1);
-        }
-        z += 1;
-    }
-    above
+    let own = post[r];
+    post.iter().take(r).filter(|above| own < **above).count()
 }
 
 pub(crate) fn sum(a: &[u16]) -> u64 {
-    let mut s: u64 = 0;
-    let mut i: usize = 0;
-    while i < a.len() {
-        s = std::num::wrapping_add_u64(s, wide(a[i]));
-        i += 1;
-    }
-    s
-}
-
-fn wide(x: u16) -> u64 {
-    x as u64
-}
-
-fn rows(x: u16) -> usize
-    ensures { result < 65536 }
-{
-    x as usize
+    a.iter().fold(0, |s, x| s.wrapping_add(u64::from(*x)))
 }

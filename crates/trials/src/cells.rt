@@ -1,75 +1,31 @@
-// One place of a column, read and written. Any place may be asked for: past the end 0 is read, and nothing is written.
+// One place of a column, read and written, and numbers made narrower.
 
-pub fn at8(a: &[u8], i: usize) -> u8 {
-    if i < a.len() {
-        return a[i];
-    }
-    0
+// Any place may be asked for: past the end 0 is read.
+pub fn at<T: Copy + Default>(a: &[T], i: usize) -> T {
+    a.get(i).copied().unwrap_or_default()
 }
 
-pub fn put8(a: &mut [u8], i: usize, x: u8) {
-    if i < a.len() {
-        a[i] = x;
-    }
-}
-
-pub fn at16(a: &[u16], i: usize) -> u16 {
-    if i < a.len() {
-        return a[i];
-    }
-    0
-}
-
-pub fn put16(a: &mut [u16], i: usize, x: u16) {
-    if i < a.len() {
-        a[i] = x;
-    }
-}
-
-pub fn at64(a: &[u64], i: usize) -> u64 {
-    if i < a.len() {
-        return a[i];
-    }
-    0
-}
-
-pub fn put64(a: &mut [u64], i: usize, x: u64) {
-    if i < a.len() {
-        a[i] = x;
+// Past the end nothing is written.
+pub fn put<T: Copy>(a: &mut [T], i: usize, x: T) {
+    if let Some(place) = a.get_mut(i) {
+        *place = x;
     }
 }
 
 pub fn byte(x: usize) -> u8 {
-    if x < 256 {
-        return x as u8;
-    }
-    255
+    u8::try_from(x).unwrap_or(u8::MAX)
 }
 
 pub fn narrow(x: usize) -> u16 {
-    if x < 65536 {
-        return x as u16;
-    }
-    65535
-}
-
-pub fn wide(x: u16) -> usize {
-    x as usize
+    u16::try_from(x).unwrap_or(u16::MAX)
 }
 
 // 0 where all is right, 1 where not.
 pub fn wrong(right: bool) -> u64 {
-    if right {
-        return 0;
-    }
-    1
+    u64::from(!right)
 }
 
-// Sums of small numbers; they would wrap.
-pub fn sum(a: usize, b: usize) -> usize {
-    std::num::wrapping_add_usize(a, b)
-}
-
-pub fn plus(a: u64, b: u64) -> u64 {
-    std::num::wrapping_add_u64(a, b)
+// How many are wrong together; the sum would wrap.
+pub fn total(wrong: &[u64]) -> u64 {
+    wrong.iter().fold(0, |all, n| all.wrapping_add(*n))
 }

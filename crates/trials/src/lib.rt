@@ -7,5 +7,5 @@ pub mod cells;
 pub mod draw;
 pub mod hand;
 pub mod queries;
-pub mod refusals;
+pub mod questions;
 pub mod trees;

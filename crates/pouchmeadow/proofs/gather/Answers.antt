@@ -15,20 +15,18 @@ one_more t cs n i c q r ec eq er =
 
 pub loop-i-init : goal.loop-i-init
 unfolding filled
-loop-i-init c = (omega arith, c.most-m.ensures, c.empty-q.ensures)
+loop-i-init c = c.empty-q.ensures
 
 pub condition_of-c-requires : goal.condition_of-c-requires
-condition_of-c-requires c = omega (arith, c.loop-i.invariant.1, c.loop-i-test.true, (few_is (length c.args.axes.now)).0)
+condition_of-c-requires c = omega (arith, c.most-i-end.ensures, (few_is (length c.args.axes.now)).0)
 
 pub put-q-requires : goal.put-q-requires
-put-q-requires c = omega (arith, c.loop-i.invariant.1, c.loop-i-test.true, (few_is (length c.args.axes.now)).1)
+put-q-requires c = omega (arith, c.most-i-end.ensures, (few_is (length c.args.axes.now)).1)
 
 pub loop-i-preserved : goal.loop-i-preserved
-loop-i-preserved c =
-    let l = c.loop-i.invariant in
-    (omega arith, l.1, one_more _ _ _ _ _ _ _ c.condition_of-c.ensures l.2 c.put-q.ensures)
+loop-i-preserved c = one_more _ _ _ _ _ _ _ c.condition_of-c.ensures c.loop-i.invariant c.put-q.ensures
 
 pub returns : goal.returns
 returns c =
-    let l = c.loop-i.invariant in
-    l.2 ∙ ap (gathered c.args.terms c.args.axes.now (length c.args.axes.now)) (le_antisymm l.0 c.loop-i-test.false ∙ l.1)
+    let e : c.loop-i.i ≡ c.most-i-end.result = omega arith in
+    c.loop-i.invariant ∙ ap (gathered c.args.terms c.args.axes.now (length c.args.axes.now)) (e ∙ c.most-i-end.ensures)

@@ -4,7 +4,4 @@ use Rattle.pouchmeadow.specs.Gathered.{gathered, few}
 use Rattle.pouchmeadow.proofs.gather.Given as goal
 
 abbrev pub invariant-loop-i : goal.invariant-loop-i
-invariant-loop-i l = (l.i ≤ l.m) × (l.m ≡ few (length l.axes)) × (l.q ≡ gathered l.fn.terms l.axes (length l.axes) l.i)
-
-abbrev pub decreases-loop-i : goal.decreases-loop-i
-decreases-loop-i l = l.m - l.i
+invariant-loop-i l = (l.q ≡ gathered l.fn.terms l.axes (length l.axes) l.i)

@@ -1,25 +1,13 @@
-use mathlib.Core.Path.{sym, ◌∙◌}
-use borrow.Author.Rules.{rules}
-use Rattle.meaning.specs.Query.{is_head_named}
-use Rattle.query.specs.Check.{is_head}
-use Rattle.query.proofs.Laws.{every_none, every_more, every_done, every_not}
+-- `query::is_head_named` meets its contract. Assumes nothing.
+use Rattle.std.proofs.Common.{◌∙◌, rules, tests}
+use Rattle.std.proofs.lemmas.Iterator.{YieldsList-from_slice}
+use Rattle.std.proofs.lemmas.Iterator.Consumers.{YieldsList-from_enumerate}
+use Rattle.std.proofs.lemmas.Iterator.Search.{all_from_yields_List}
+use Rattle.query.proofs.Laws.{is_place_named, places-named}
 use Rattle.query.proofs.is_head_named.Goals as goal
 
-pub loop-i-init : goal.loop-i-init
-loop-i-init c = (search rules, every_none _)
-
-pub returns-then-not-is_place_named : goal.returns-then-not-is_place_named
-unfolding is_head
-returns-then-not-is_place_named c = let a = c.args in
-    every_not (λ i. is_head_named a.v a.head i) a.n c.loop-i.i c.loop-i-test.true (sym c.is_place_named.ensures ∙ c.if-not-is_place_named.true)
-
-pub loop-i-preserved : goal.loop-i-preserved
-loop-i-preserved c = let a = c.args in (
-  search rules,
-  every_more (λ i. is_head_named a.v a.head i) c.loop-i.i c.loop-i.invariant.1 (sym c.is_place_named.ensures ∙ c.if-not-is_place_named.false),
-)
-
 pub returns : goal.returns
-unfolding is_head
-returns c = let a = c.args in
-    every_done (λ i. is_head_named a.v a.head i) a.n c.loop-i.i c.loop-i.invariant.0 c.loop-i.invariant.1 c.loop-i-test.false
+returns c =
+    let h = c.args.head.now in
+    all_from_yields_List (is_place_named h c.args.v) _ _ _ c.all.ensures.ran (YieldsList-from_enumerate (YieldsList-from_slice h cc) cc) (λ x b q k. search (rules, tests))
+    ∙ places-named h c.args.v

@@ -1,51 +1,52 @@
--- `query_text::read_legal` meets its contract. Each return by what was found on the way: the tables are exact, the counts within their limits. Assumes nothing.
-use mathlib.Core.Bool.{false}
-use mathlib.Core.Path.{◌≡◌}
-use mathlib.Core.List.{List}
-use Prim.Native.Nat.{ℕ, ◌≤◌}
-use Rattle.meaning.specs.QueryTexts.{said, variables, names}
-use Rattle.query_text.specs.Tables.{Both}
-use Rattle.query_text.specs.declared.tables.Tables.{Tables}
-use Rattle.query_text.proofs.AnswerLaws.{refuse_counts, over_variables, many_variables, over_names, Exact, many_conditions, fine, refuse_twice, refuse_unused, refuse_short, takes-fits, accept}
+use Rattle.std.proofs.Common.{◌++◌, List, ℕ, Ok, length, drop, sym, ap, ◌∙◌}
+use Rattle.meaning.specs.QueryTexts.{said, twice, unused, closed}
+use Rattle.meaning.specs.declared.Query.{Query}
+use Rattle.query_text.specs.Room.{room_of}
+use Rattle.query_text.proofs.PlaceOf.{words_of}
+use Rattle.query_text.proofs.PutLaws.{err_is}
+use Rattle.query_text.proofs.JudgeLaws.{head_asked}
+use Rattle.query_text.proofs.AnswerLaws.{refuse_counts, refuse_twice, refuse_unused, refuse_short, room_is, accept}
 use Rattle.query_text.proofs.read_legal.Goals as goal
 
--- the tables are those of the text, whole and within the limits
-exact : (s : List ℕ) (t : Tables) → Both s t (variables (said s)) (names (said s)) → t.variables.over ≡ false → t.variables.count ≤ 16 → t.names.over ≡ false → Exact s t.variables t.names (said s)
-exact s t b o l n = record { variables = b.variables; names = b.names; vs_whole = o; vs_few = l; ns_whole = n }
-
-pub returns-then-vs : goal.returns-then-vs
-returns-then-vs c = refuse_counts (said c.args.text.now) c.args.names.now c.refused.result (over_variables c.args.text.now c.gather-t.result.variables (said c.args.text.now) c.gather-t.ensures.variables c.if-vs.true) c.refused.ensures
-
-pub returns-then-vs-gt16 : goal.returns-then-vs-gt16
-returns-then-vs-gt16 c = refuse_counts (said c.args.text.now) c.args.names.now c.refused-then-vs-gt16.result (many_variables c.args.text.now c.gather-t.result.variables (said c.args.text.now) c.gather-t.ensures.variables c.if-vs.false c.if-vs-gt16.true) c.refused-then-vs-gt16.ensures
-
-pub returns-then-ns : goal.returns-then-ns
-returns-then-ns c = refuse_counts (said c.args.text.now) c.args.names.now c.refused-then-ns.result (over_names c.args.text.now c.gather-t.result.names (said c.args.text.now) c.gather-t.ensures.names c.if-ns.true) c.refused-then-ns.ensures
-
-pub returns-then-too_many : goal.returns-then-too_many
-returns-then-too_many c = refuse_counts (said c.args.text.now) c.args.names.now c.refused-then-too_many.result (many_conditions c.args.text.now c.gather-t.result.variables c.gather-t.result.names (said c.args.text.now) c.fill-query.result c.too_many.result (exact c.args.text.now c.gather-t.result c.gather-t.ensures c.if-vs.false c.if-vs-gt16.false c.if-ns.false) c.fill-query.ensures c.too_many.ensures c.if-too_many.true) c.refused-then-too_many.ensures
+pub returns-in_err-read : goal.returns-in_err-read
+returns-in_err-read c =
+    let h = c.in_err-read.ensures in
+    let r = refuse_counts (said c.args.text.now) c.args.names.now _ h.0 h.1 in
+    (err_is c.from_residual.result _ c.from_residual.ensures.1 ∙ r.0, r.1)
 
 pub head_twice-requires : goal.head_twice-requires
-head_twice-requires c = let f = (fine c.args.text.now c.gather-t.result.variables c.gather-t.result.names (said c.args.text.now) c.fill-query.result c.too_many.result (exact c.args.text.now c.gather-t.result c.gather-t.ensures c.if-vs.false c.if-vs-gt16.false c.if-ns.false) c.fill-query.ensures c.too_many.ensures c.if-too_many.false) in f.few-heads
+head_twice-requires c = c.in_ok-read.ensures.4.heads
 
 pub returns-then-head_twice : goal.returns-then-head_twice
-returns-then-head_twice c = refuse_twice (said c.args.text.now) c.args.names.now c.fill-query.result c.head_twice.result c.refused-then-head_twice.result (fine c.args.text.now c.gather-t.result.variables c.gather-t.result.names (said c.args.text.now) c.fill-query.result c.too_many.result (exact c.args.text.now c.gather-t.result c.gather-t.ensures c.if-vs.false c.if-vs-gt16.false c.if-ns.false) c.fill-query.ensures c.too_many.ensures c.if-too_many.false) c.head_twice.ensures c.if-head_twice.true c.refused-then-head_twice.ensures
+returns-then-head_twice c =
+    let h = c.in_ok-read.ensures in
+    refuse_twice (said c.args.text.now) c.args.names.now h.0 (ap twice (sym h.1) ∙ sym c.head_twice.ensures ∙ c.if-head_twice.true)
 
 pub head_unused-requires : goal.head_unused-requires
-head_unused-requires c = let f = (fine c.args.text.now c.gather-t.result.variables c.gather-t.result.names (said c.args.text.now) c.fill-query.result c.too_many.result (exact c.args.text.now c.gather-t.result c.gather-t.ensures c.if-vs.false c.if-vs-gt16.false c.if-ns.false) c.fill-query.ensures c.too_many.ensures c.if-too_many.false) in (f.few-heads, f.few-labels, f.few-axes)
+head_unused-requires c = let w = c.in_ok-read.ensures.4 in (w.heads, w.labels, w.axes)
 
 pub returns-then-head_unused : goal.returns-then-head_unused
-returns-then-head_unused c = refuse_unused (said c.args.text.now) c.args.names.now c.fill-query.result c.head_twice.result c.head_unused.result c.refused-then-head_unused.result (fine c.args.text.now c.gather-t.result.variables c.gather-t.result.names (said c.args.text.now) c.fill-query.result c.too_many.result (exact c.args.text.now c.gather-t.result c.gather-t.ensures c.if-vs.false c.if-vs-gt16.false c.if-ns.false) c.fill-query.ensures c.too_many.ensures c.if-too_many.false) c.head_twice.ensures c.if-head_twice.false c.head_unused.ensures c.if-head_unused.true c.refused-then-head_unused.ensures
+returns-then-head_unused c =
+    let h = c.in_ok-read.ensures in
+    let u = c.head_unused.ensures in
+    refuse_unused (said c.args.text.now) c.args.names.now h.0 (ap twice (sym h.1) ∙ sym c.head_twice.ensures ∙ c.if-head_twice.false) (ap unused (sym h.1) ∙ sym (u.value ∙ head_asked c.in_ok-read.read.query u.inside) ∙ c.if-head_unused.true)
+
+pub returns-in_default : goal.returns-in_default
+returns-in_default c =
+    let h = c.in_ok-read.ensures in
+    let u = c.head_unused.ensures in
+    refuse_short (said c.args.text.now) c.args.names.now h.0 (ap twice (sym h.1) ∙ sym c.head_twice.ensures ∙ c.if-head_twice.false) (ap unused (sym h.1) ∙ sym (u.value ∙ head_asked c.in_ok-read.read.query u.inside) ∙ c.if-head_unused.false)
+    (c.in_default.ensures ∙ ap (λ (l : List (List ℕ)). room_of (length (closed l)) (length c.args.names.now)) (c.words-labels.ensures.0 ∙ h.3))
 
 pub write_names-requires : goal.write_names-requires
-write_names-requires c = (c.gather-t.ensures.names.small, takes-fits c.gather-t.result.names c.args.names.now c.room_for-room.result _ c.room_for-room.ensures c.in-Takes.is)
+write_names-requires c = room_is (length (closed (words_of c.words-labels.result.now))) (length c.args.names.now) _ c.in-Some.ensures
 
-pub returns-in-Short : goal.returns-in-Short
-returns-in-Short c =
-    refuse_short c.args.text.now (said c.args.text.now) c.args.names.now c.gather-t.result.names c.fill-query.result c.head_twice.result c.head_unused.result c.room_for-room.result c.refused-in-Short.result (fine c.args.text.now c.gather-t.result.variables c.gather-t.result.names (said c.args.text.now) c.fill-query.result c.too_many.result (exact c.args.text.now c.gather-t.result c.gather-t.ensures c.if-vs.false c.if-vs-gt16.false c.if-ns.false) c.fill-query.ensures c.too_many.ensures c.if-too_many.false)
-    c.head_twice.ensures c.if-head_twice.false c.head_unused.ensures c.if-head_unused.false c.gather-t.ensures.names c.if-ns.false c.room_for-room.ensures c.in-Short.is c.refused-in-Short.ensures
-
-pub returns-in-Takes : goal.returns-in-Takes
-returns-in-Takes c =
-    accept c.args.text.now (said c.args.text.now) c.args.names.now c.write_names.new.buffer c.gather-t.result.names c.fill-query.result c.head_twice.result c.head_unused.result c.room_for-room.result _ (fine c.args.text.now c.gather-t.result.variables c.gather-t.result.names (said c.args.text.now) c.fill-query.result c.too_many.result (exact c.args.text.now c.gather-t.result c.gather-t.ensures c.if-vs.false c.if-vs-gt16.false c.if-ns.false) c.fill-query.ensures c.too_many.ensures c.if-too_many.false)
-    c.head_twice.ensures c.if-head_twice.false c.head_unused.ensures c.if-head_unused.false c.gather-t.ensures.names c.if-ns.false c.room_for-room.ensures c.in-Takes.is c.write_names.ensures
+pub returns : goal.returns
+returns c =
+    let h = c.in_ok-read.ensures in
+    let u = c.head_unused.ensures in
+    let e = c.words-labels.ensures.0 ∙ h.3 in
+    let a = accept (said c.args.text.now) c.args.names.now c.write_names.new.buffer c.in-Some.bytes h.0 (ap twice (sym h.1) ∙ sym c.head_twice.ensures ∙ c.if-head_twice.false) (ap unused (sym h.1) ∙ sym (u.value ∙ head_asked c.in_ok-read.read.query u.inside) ∙ c.if-head_unused.false)
+    (c.in-Some.ensures ∙ ap (λ (l : List (List ℕ)). room_of (length (closed l)) (length c.args.names.now)) e)
+    (c.write_names.ensures ∙ ap (λ (l : List (List ℕ)). closed l ++ drop (length (closed l)) c.args.names.now) e) in
+    (ap (λ (q : Query). Ok (record { bytes = c.in-Some.bytes; query = q })) h.1 ∙ a.0, a.1)

@@ -20,12 +20,12 @@ do_sentence-s-requires c = let i = c.loop-n.invariant in (i.1, i.2)
 
 pub overflow_add-sentence : goal.overflow_add-sentence
 unfolding sentence_rest
-overflow_add-sentence c = let l = c.loop-n in let d = c.do_sentence-s in let r = ap length c.rest-rest.ensures in let n = next_shorter _ _ _ _ _ _ _ _ _ d.ensures c.in-Next.is in omega (arith, l.invariant.0, n, c.well_formed)
+overflow_add-sentence c = let l = c.loop-n in let d = c.do_sentence-s in let r = ap length c.rest-left.ensures in let n = next_shorter _ _ _ _ _ _ _ _ _ d.ensures c.in-Next.is in omega (arith, l.invariant.0, n, c.well_formed)
 
 pub loop-n-smaller : goal.loop-n-smaller
 unfolding sentence_rest
-loop-n-smaller c = let l = c.loop-n in let d = c.do_sentence-s in let r = ap length c.rest-rest.ensures in let n = next_shorter _ _ _ _ _ _ _ _ _ d.ensures c.in-Next.is in omega (arith, r, n)
+loop-n-smaller c = let l = c.loop-n in let d = c.do_sentence-s in let r = ap length c.rest-left.ensures in let n = next_shorter _ _ _ _ _ _ _ _ _ d.ensures c.in-Next.is in omega (arith, r, n)
 
 pub loop-n-preserved : goal.loop-n-preserved
 unfolding sentence_rest
-loop-n-preserved c = let l = c.loop-n in let d = c.do_sentence-s in let r = ap length c.rest-rest.ensures in let n = next_shorter _ _ _ _ _ _ _ _ _ d.ensures c.in-Next.is in (omega (arith, l.invariant.0, r, n), d.auto.post ∙ l.invariant.1, d.auto.label ∙ l.invariant.2)
+loop-n-preserved c = let l = c.loop-n in let d = c.do_sentence-s in let r = ap length c.rest-left.ensures in let n = next_shorter _ _ _ _ _ _ _ _ _ d.ensures c.in-Next.is in (omega (arith, l.invariant.0, r, n), d.auto.post ∙ l.invariant.1, d.auto.label ∙ l.invariant.2)

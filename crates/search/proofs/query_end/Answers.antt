@@ -1,18 +1,18 @@
-use native.Mathlib.Omega.{arith}
-use Rattle.search.proofs.Begins.{goes_start, goes_next, goes_stop, goes_end}
+-- `search::query_end` meets its contract: the text goes on to its first full stop, or to its end. Assumes nothing.
+use Rattle.std.proofs.Common.{◌≡◌, sym, ◌∙◌, length, arith}
+use Rattle.std.proofs.lemmas.Bool.{eqb-true}
+use Rattle.std.proofs.lemmas.List.Quantifiers.{position-Some}
+use Rattle.search.proofs.Begins.{is_stop, goes_to, goes_through, goes_stop, goes_end}
 use Rattle.search.proofs.query_end.Goals as goal
 
-pub loop-i-init : goal.loop-i-init
-loop-i-init c = goes_start c.args.text.now
+pub returns-in-Some : goal.returns-in-Some
+returns-in-Some c =
+    let s = c.args.text.now in
+    let i = c.in-Some.stop in
+    let p = position-Some is_stop s i 0 (sym c.full_stop.ensures ∙ c.in-Some.is) in
+    goes_stop s i (goes_to s i (omega (arith, p.0)) p.2) p.0 (eqb-true _ _ p.1)
 
-pub returns-then-b-eq46 : goal.returns-then-b-eq46
-returns-then-b-eq46 c = goes_stop c.args.text.now c.loop-i.i c.loop-i.invariant c.loop-i-test.true c.if-b-eq46.true
-
-pub loop-i-smaller : goal.loop-i-smaller
-loop-i-smaller c = omega (arith, c.loop-i-test.true)
-
-pub loop-i-preserved : goal.loop-i-preserved
-loop-i-preserved c = goes_next c.args.text.now c.loop-i.i c.loop-i.invariant c.loop-i-test.true c.if-b-eq46.false
-
-pub returns : goal.returns
-returns c = goes_end c.args.text.now c.loop-i.i c.loop-i.invariant c.loop-i-test.false
+pub returns-in-None : goal.returns-in-None
+returns-in-None c =
+    let s = c.args.text.now in
+    goes_end s (length s) (goes_through s (sym c.full_stop.ensures ∙ c.in-None.is)) (omega arith)

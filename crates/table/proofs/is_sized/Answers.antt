@@ -1,12 +1,14 @@
 -- `table::is_sized` meets its contract. Assumes nothing.
-use Rattle.table.proofs.Check.{sized_columns, sized_none, sized_so}
+use Rattle.std.proofs.Common.{arith}
+use Rattle.std.proofs.lemmas.Bool.Decides.{nat_tests}
+use Rattle.meaning.specs.Tests.{◌&◌}
+use Rattle.meaning.specs.Table.{is_sized}
 use Rattle.table.proofs.is_sized.Goals as goal
 
 pub returns-then-post-label : goal.returns-then-post-label
-returns-then-post-label c = sized_columns _ _ c.if-post-label.true
+unfolding ◌&◌ is_sized
+returns-then-post-label c = grind (arith, nat_tests)
 
-pub returns-then-post-eq0 : goal.returns-then-post-eq0
-returns-then-post-eq0 c = sized_none _ _ c.if-post-eq0.true
-
-pub returns : goal.returns
-returns c = sized_so _ _ c.if-post-label.false c.if-post-eq0.false
+pub returns-else-post-label : goal.returns-else-post-label
+unfolding ◌&◌ is_sized
+returns-else-post-label c = grind (arith, nat_tests)

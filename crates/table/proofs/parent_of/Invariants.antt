@@ -1,5 +1,5 @@
 -- `table::parent_of` meets its contract: no row that it passes is above the row. Assumes nothing.
-use Prim.Native.Nat.{◌<◌}
+use Rattle.std.proofs.Common.{◌<◌}
 use Rattle.table.proofs.Columns.{Passed}
 use Rattle.table.proofs.parent_of.Given as goal
 

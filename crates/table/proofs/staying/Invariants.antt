@@ -1,5 +1,5 @@
 -- `table::staying` meets its contract: the rows passed over end before the row. Assumes nothing.
-use Prim.Native.Nat.{◌≤◌, ◌<◌}
+use Rattle.std.proofs.Common.{◌≤◌, ◌<◌}
 use Rattle.table.proofs.Stack.{Ended}
 use Rattle.table.proofs.staying.Given as goal
 

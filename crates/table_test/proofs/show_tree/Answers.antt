@@ -5,9 +5,3 @@ use Rattle.table_test.proofs.show_tree.Goals as goal
 
 pub show_keys-requires : goal.show_keys-requires
 show_keys-requires c = (omega arith, levels_filled _ _ _ (omega arith) c.fill_columns.ensures.1)
-
-pub show_keys-requires-2 : goal.show_keys-requires-2
-show_keys-requires-2 c = (omega arith, levels_filled _ _ _ (omega arith) c.fill_columns.ensures.1)
-
-pub show_keys-requires-3 : goal.show_keys-requires-3
-show_keys-requires-3 c = (omega arith, levels_filled _ _ _ (omega arith) c.fill_columns.ensures.1)

@@ -1,17 +1,13 @@
-use mathlib.Core.Path.{sym, ap, ◌∙◌}
-use native.Mathlib.Omega.{arith}
-use Rattle.meaning.specs.Sentences.{white}
-use Rattle.brackets.proofs.Scanning.{white-inside, skip-on, skip_here}
+-- The proof of `skip_white` of src/bytes.rt. Assumes nothing.
+use Rattle.std.proofs.Common.{◌≡◌, length, sym, ◌∙◌, arith}
+use Rattle.brackets.proofs.Scanning.{skip-on, skip_here, skip_end}
 use Rattle.brackets.proofs.bytes.skip_white.Goals as goal
 
-pub overflow_add-i : goal.overflow_add-i
-overflow_add-i c = omega (arith, white-inside c.args.text.now c.loop-i.i (ap white (sym c.peek.ensures) ∙ sym c.is_white.ensures ∙ c.loop-i-test.true))
-
-pub loop-i-smaller : goal.loop-i-smaller
-loop-i-smaller c = omega (arith, white-inside c.args.text.now c.loop-i.i (ap white (sym c.peek.ensures) ∙ sym c.is_white.ensures ∙ c.loop-i-test.true))
-
 pub loop-i-preserved : goal.loop-i-preserved
-loop-i-preserved c = let h = ap white (sym c.peek.ensures) ∙ sym c.is_white.ensures ∙ c.loop-i-test.true in (omega (arith, c.loop-i.invariant), omega (arith, white-inside c.args.text.now c.loop-i.i h), skip-on c.args.text.now c.loop-i.i h ∙ c.loop-i.invariant.2)
+loop-i-preserved c = skip-on c.args.text.now c.loop-i.i (sym c.is_white.ensures ∙ c.if-not-is_white.false) ∙ c.loop-i.invariant
+
+pub returns-then-not-is_white : goal.returns-then-not-is_white
+returns-then-not-is_white c = (sym (skip_here c.args.text.now c.loop-i.i (sym c.is_white.ensures ∙ c.if-not-is_white.true)) ∙ c.loop-i.invariant, omega arith, omega arith)
 
 pub returns : goal.returns
-returns c = let h = ap white (sym c.peek.ensures) ∙ sym c.is_white.ensures ∙ c.loop-i-test.false in (sym (skip_here c.args.text.now c.loop-i.i h) ∙ c.loop-i.invariant.2, c.loop-i.invariant.0, c.loop-i.invariant.1)
+returns c = let i : length c.args.text.now ≡ c.loop-i.i = omega arith in (rw i (sym (skip_end c.args.text.now c.loop-i.i (omega arith)) ∙ c.loop-i.invariant), omega arith, omega arith)

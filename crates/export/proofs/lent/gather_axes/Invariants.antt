@@ -7,7 +7,4 @@ use Rattle.export.specs.Lent.{lent_axis}
 use Rattle.export.proofs.lent.gather_axes.Given as goal
 
 abbrev pub invariant-loop-i : goal.invariant-loop-i
-invariant-loop-i l = (l.i ≤ l.n) × (length l.out ≡ 32) × ((k : ℕ) → k < l.i → get_or l.out k no-condition ≡ lent_axis l.axes k)
-
-abbrev pub decreases-loop-i : goal.decreases-loop-i
-decreases-loop-i l = l.n - l.i
+invariant-loop-i l = (length l.out ≡ 32) × ((k : ℕ) → k < l.i → get_or l.out k no-condition ≡ lent_axis l.axes k)

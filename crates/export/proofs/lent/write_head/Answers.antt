@@ -1,24 +1,16 @@
-use mathlib.Core.Path.{ap, ◌∙◌}
-use Prim.Native.Nat.{ℕ}
-use native.Mathlib.Omega.{arith}
-use native.Mathlib.Nat.{le_antisymm}
-use borrow.Author.Rules.{rules}
+-- `export::lent::write_head` meets its contract: what is copied is the head. Assumes nothing.
+use Rattle.std.proofs.Common.{◌≡◌, ℕ, ◌++◌, length, take, drop, get_or, arith, refl, sym, ◌∙◌, subst, ap}
+use Rattle.std.proofs.lemmas.List.{get_or-take, length-take-le}
 use Rattle.meaning.specs.Query.{firsts, asked}
 use Rattle.meaning.specs.Entries.{at_front}
-use Rattle.export.proofs.Lists.{head_none, head_more}
+use Rattle.export.proofs.Lists.{firsts_list}
 use Rattle.export.proofs.lent.write_head.Goals as goal
 
-pub loop-i-init : goal.loop-i-init
-loop-i-init c = (search rules, search rules, head_none _ _)
-
-pub loop-i-preserved : goal.loop-i-preserved
-loop-i-preserved c =
-    let l = c.loop-i in
-    (search rules, search rules, head_more _ l.to c.args.to.now l.i l.invariant.2 (omega (arith, c.requires.1, l.invariant.0)))
-
 pub returns : goal.returns
-unfolding asked
-returns c =
-    let l = c.loop-i in
-    let a = c.args in
-    l.invariant.2 ∙ ap (λ (k : ℕ). at_front (firsts 0 a.q.head k) a.to.now) (le_antisymm l.invariant.0 c.loop-i-test.false)
+unfolding asked at_front
+returns c = let a = c.args in
+    let s = c.copy_from_slice.new.self in
+    let e = c.copy_from_slice.ensures.after in
+    let n : length s ≡ a.q.head_count = omega (arith, ap length e, length-take-le a.q.head_count a.q.head (omega arith)) in
+    let f : firsts 0 a.q.head (length s) ≡ s = firsts_list _ _ (λ k m. rw e (sym (get_or-take a.q.head_count a.q.head k 0 (omega (arith, m, n))))) in
+    subst (λ (k : ℕ). s ++ drop k a.to.now ≡ at_front (firsts 0 a.q.head k) a.to.now) n (rw f refl)

@@ -8,7 +8,4 @@ use Rattle.meaning.specs.Entries.{at_front}
 use Rattle.export.proofs.lent.write_labels.Given as goal
 
 abbrev pub invariant-loop-i : goal.invariant-loop-i
-invariant-loop-i l = (l.i ≤ l.n) × (length l.to ≡ length l.initial.to) × (l.to ≡ at_front (label_numbers (firsts no_label l.labels l.i)) l.initial.to)
-
-abbrev pub decreases-loop-i : goal.decreases-loop-i
-decreases-loop-i l = l.n - l.i
+invariant-loop-i l = (length l.to ≡ length l.initial.to) × (l.to ≡ at_front (label_numbers (firsts no_label l.labels l.i)) l.initial.to)

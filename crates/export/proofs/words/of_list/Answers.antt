@@ -4,10 +4,10 @@ use Rattle.meaning.specs.QueryTexts.{pad}
 use Rattle.export.specs.Words.{told_words}
 use Rattle.export.proofs.words.of_list.Goals as goal
 
-pub returns-in-Listed : goal.returns-in-Listed
+pub returns-in-Ok : goal.returns-in-Ok
 unfolding told_words pad told_list given
-returns-in-Listed c = rw (c.in-Listed.is, c.ending_number.ensures)
+returns-in-Ok c = rw (c.in-Ok.is, c.ending_number.ensures)
 
-pub returns-in-Refused : goal.returns-in-Refused
+pub returns-in-Err : goal.returns-in-Err
 unfolding told_list
-returns-in-Refused c = rw c.in-Refused.is c.of_refusal.ensures
+returns-in-Err c = rw c.in-Err.is c.of_refusal.ensures

@@ -4,10 +4,10 @@ use Rattle.meaning.specs.QueryTexts.{pad}
 use Rattle.export.specs.Words.{told_words}
 use Rattle.export.proofs.words.of_prune.Goals as goal
 
-pub returns-in-Pruned : goal.returns-in-Pruned
+pub returns-in-Ok : goal.returns-in-Ok
 unfolding told_words pad told_prune given
-returns-in-Pruned c = rw c.in-Pruned.is
+returns-in-Ok c = rw c.in-Ok.is
 
-pub returns-in-Refused : goal.returns-in-Refused
+pub returns-in-Err : goal.returns-in-Err
 unfolding told_prune
-returns-in-Refused c = rw c.in-Refused.is c.of_refusal.ensures
+returns-in-Err c = rw c.in-Err.is c.of_refusal.ensures

@@ -4,10 +4,10 @@ use Rattle.meaning.specs.QueryTexts.{pad}
 use Rattle.export.specs.Words.{told_words}
 use Rattle.export.proofs.words.of_query.Goals as goal
 
-pub returns-in-Accepted : goal.returns-in-Accepted
+pub returns-in-Ok : goal.returns-in-Ok
 unfolding told_words pad told_query given
-returns-in-Accepted c = rw c.in-Accepted.is
+returns-in-Ok c = rw c.in-Ok.is
 
-pub returns-in-Refused : goal.returns-in-Refused
+pub returns-in-Err : goal.returns-in-Err
 unfolding told_query
-returns-in-Refused c = rw c.in-Refused.is c.of_refusal.ensures
+returns-in-Err c = rw c.in-Err.is c.of_refusal.ensures

@@ -4,10 +4,10 @@ use Rattle.meaning.specs.QueryTexts.{pad}
 use Rattle.export.specs.Words.{told_words}
 use Rattle.export.proofs.words.of_sentence.Goals as goal
 
-pub returns-in-Read : goal.returns-in-Read
+pub returns-in-Ok : goal.returns-in-Ok
 unfolding told_words pad told_sentence given
-returns-in-Read c = rw c.in-Read.is
+returns-in-Ok c = rw c.in-Ok.is
 
-pub returns-in-Refused : goal.returns-in-Refused
+pub returns-in-Err : goal.returns-in-Err
 unfolding told_sentence
-returns-in-Refused c = rw c.in-Refused.is c.of_refusal.ensures
+returns-in-Err c = rw c.in-Err.is c.of_refusal.ensures

@@ -4,10 +4,10 @@ use Rattle.meaning.specs.QueryTexts.{pad}
 use Rattle.export.specs.Words.{told_words}
 use Rattle.export.proofs.words.of_table.Goals as goal
 
-pub returns-in-Tree : goal.returns-in-Tree
+pub returns-in-Ok : goal.returns-in-Ok
 unfolding told_words pad told_table given
-returns-in-Tree c = rw c.in-Tree.is
+returns-in-Ok c = rw c.in-Ok.is
 
-pub returns-in-Refused : goal.returns-in-Refused
+pub returns-in-Err : goal.returns-in-Err
 unfolding told_table
-returns-in-Refused c = rw c.in-Refused.is c.of_refusal.ensures
+returns-in-Err c = rw c.in-Err.is c.of_refusal.ensures

@@ -1,24 +1,17 @@
-use native.Mathlib.Omega.{arith}
-use mathlib.Core.Path.{ap}
-use borrow.Author.Rules.{rules}
-use Rattle.query_text.specs.Machine.{found}
-use Rattle.query_text.proofs.Running.{at-start, at_stop, at_next, at-legal, at-early}
+use Rattle.query_text.proofs.Running.{at-start, at_stop, at_next, at_legal, at_early}
 use Rattle.query_text.proofs.machine.find.Goals as goal
 
 pub loop-i-init : goal.loop-i-init
-loop-i-init c = (omega arith, at-start _)
+loop-i-init c = at-start _
 
-pub returns-then-stopped : goal.returns-then-stopped
-unfolding found
-returns-then-stopped c = let l = c.loop-i in let s = c.args.text.now in ap found (at_stop s l.q c.step-r.result l.i _ l.invariant.1 c.loop-i-test.true c.step-r.ensures c.stopped.ensures c.if-stopped.true)
+pub returns-in-Stop : goal.returns-in-Stop
+returns-in-Stop c = let l = c.loop-i in at_stop c.args.text.now l.q c.step-q.result l.i l.invariant c.loop-i-test.true c.step-q.ensures c.in-Stop.is
 
 pub loop-i-preserved : goal.loop-i-preserved
-loop-i-preserved c = let l = c.loop-i in let s = c.args.text.now in (search rules, at_next s l.q c.step-r.result l.i _ l.invariant.1 c.loop-i-test.true c.step-r.ensures c.stopped.ensures c.if-stopped.false)
+loop-i-preserved c = let l = c.loop-i in at_next c.args.text.now l.q c.step-q.result l.i l.invariant c.loop-i-test.true c.step-q.ensures c.in_default.not-Stop
 
-pub returns-then-finished : goal.returns-then-finished
-unfolding found
-returns-then-finished c = let l = c.loop-i in let s = c.args.text.now in ap found (at-legal s l.q l.i _ l.invariant.1 c.loop-i-test.false c.finished.ensures c.if-finished.true)
+pub returns-in-End : goal.returns-in-End
+returns-in-End c = let l = c.loop-i in at_legal c.args.text.now l.q l.i l.invariant c.loop-i-test.false c.in-End.is
 
-pub returns-else-finished : goal.returns-else-finished
-unfolding found
-returns-else-finished c = let l = c.loop-i in let s = c.args.text.now in ap found (at-early s l.q l.i _ l.invariant.1 c.loop-i-test.false c.finished.ensures c.if-finished.false)
+pub returns-in_default-q : goal.returns-in_default-q
+returns-in_default-q c = let l = c.loop-i in at_early c.args.text.now l.q l.i l.invariant c.loop-i-test.false l.auto.i-end c.in_default-q.not-End

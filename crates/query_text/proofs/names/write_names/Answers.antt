@@ -1,27 +1,52 @@
-use native.Mathlib.Omega.{arith}
-use Rattle.query_text.proofs.NameLaws.{writes_start, writes_fit, writes_next, writes_end}
+use Rattle.std.proofs.Common.{◌+◌, ◌<◌, rules, ◌++◌, List, ℕ, length, drop, refl, sym, ap, ◌∙◌, arith}
+use Rattle.std.proofs.lemmas.List.{take-append-drop}
+use Rattle.meaning.specs.QueryTexts.{closed}
+use Rattle.query_text.proofs.NameLaws.{name_at, bytes_more, bytes_grow, bytes_less, bytes_all, put_length, write_front, write_behind}
+use Rattle.query_text.proofs.PlaceOf.{words_of}
 use Rattle.query_text.proofs.names.write_names.Goals as goal
 
-pub loop-i-init : goal.loop-i-init
-loop-i-init c = writes_start _ _ _
+pub loop-name-init : goal.loop-name-init
+unfolding closed
+loop-name-init c = record { place = refl; front = refl; behind = refl }
 
-pub write_word-requires : goal.write_word-requires
-write_word-requires c = let l = c.loop-i in let a = c.args in let f = writes_fit a.text.now a.names a.buffer.now l.buffer l.at l.i l.invariant c.loop-i-test.true c.requires.1 in f
+pub slice_bounds-copy_from_slice-end : goal.slice_bounds-copy_from_slice-end
+slice_bounds-copy_from_slice-end c =
+    let ns = c.args.names.now in
+    let l = c.loop-name in
+    let i = l.name-index in
+    let a = bytes_grow ns i c.loop-name-test.true in
+    let b = bytes_less ns (i + 1) in
+    let inside : l.at + length (name_at ns i) < length l.buffer = omega (arith, a, b, l.invariant.place, l.auto.buffer, c.requires) in
+    search rules
 
-pub overflow_add-at : goal.overflow_add-at
-overflow_add-at c = let l = c.loop-i in let a = c.args in let f = writes_fit a.text.now a.names a.buffer.now l.buffer l.at l.i l.invariant c.loop-i-test.true c.requires.1 in omega (arith, f, l.invariant.size, c.requires.0)
+pub bounds-buffer-end : goal.bounds-buffer-end
+bounds-buffer-end c =
+    let ns = c.args.names.now in
+    let l = c.loop-name in
+    let i = l.name-index in
+    let a = bytes_grow ns i c.loop-name-test.true in
+    let b = bytes_less ns (i + 1) in
+    let inside : l.at + length (name_at ns i) < length l.buffer = omega (arith, a, b, l.invariant.place, l.auto.buffer, c.requires) in
+    let e = ap length c.copy_from_slice.ensures.after in
+    omega (arith, inside, put_length c.args.buffer.now l.buffer c.copy_from_slice.new.self (name_at ns i) _ l.at inside c.copy_from_slice.ensures.after l.invariant.front l.invariant.behind)
 
-pub overflow_add-at-in-loop-i : goal.overflow_add-at-in-loop-i
-overflow_add-at-in-loop-i c = let l = c.loop-i in let a = c.args in let f = writes_fit a.text.now a.names a.buffer.now l.buffer l.at l.i l.invariant c.loop-i-test.true c.requires.1 in omega (arith, f, l.invariant.size, c.requires.0)
-
-pub overflow_add-i : goal.overflow_add-i
-overflow_add-i c = let l = c.loop-i in let a = c.args in let f = writes_fit a.text.now a.names a.buffer.now l.buffer l.at l.i l.invariant c.loop-i-test.true c.requires.1 in omega (arith, f, l.invariant.size, c.requires.0)
-
-pub loop-i-preserved : goal.loop-i-preserved
-loop-i-preserved c = let l = c.loop-i in let a = c.args in let f = writes_fit a.text.now a.names a.buffer.now l.buffer l.at l.i l.invariant c.loop-i-test.true c.requires.1 in writes_next a.text.now a.names a.buffer.now l.buffer c.write_word.new.buffer l.at l.i l.invariant c.loop-i-test.true c.write_word.auto.buffer c.write_word.ensures
-
-pub shape_of-buffer : goal.shape_of-buffer
-shape_of-buffer c = c.loop-i.invariant.size
+pub loop-name-preserved : goal.loop-name-preserved
+loop-name-preserved c =
+    let ns = c.args.names.now in
+    let l = c.loop-name in
+    let i = l.name-index in
+    let a = bytes_grow ns i c.loop-name-test.true in
+    let b = bytes_less ns (i + 1) in
+    let inside : l.at + length (name_at ns i) < length l.buffer = omega (arith, a, b, l.invariant.place, l.auto.buffer, c.requires) in
+    record {
+      place = omega (arith, a, l.invariant.place);
+      front = write_front c.args.buffer.now l.buffer c.copy_from_slice.new.self (name_at ns i) _ l.at inside c.copy_from_slice.ensures.after l.invariant.front l.invariant.behind ∙ sym (bytes_more ns i c.loop-name-test.true);
+      behind = write_behind c.args.buffer.now l.buffer c.copy_from_slice.new.self (name_at ns i) _ l.at inside c.copy_from_slice.ensures.after l.invariant.front l.invariant.behind;
+    }
 
 pub returns : goal.returns
-returns c = let l = c.loop-i in let a = c.args in writes_end a.text.now a.names a.buffer.now l.buffer l.at l.i l.invariant c.loop-i-test.false
+returns c =
+    let l = c.loop-name in
+    let e = bytes_all c.args.names.now l.name-index c.loop-name-test.false in
+    sym (take-append-drop l.at l.buffer) ∙ ap (λ (x : List ℕ). x ++ drop l.at l.buffer) (l.invariant.front ∙ e) ∙ ap (λ (x : List ℕ). closed (words_of c.args.names.now) ++ x) l.invariant.behind
+    ∙ ap (λ (k : ℕ). closed (words_of c.args.names.now) ++ drop k c.args.buffer.now) (l.invariant.place ∙ ap length e)

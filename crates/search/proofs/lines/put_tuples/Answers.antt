@@ -8,22 +8,19 @@ use Rattle.search.proofs.Stores.{wrote_length, tuples-start, tuples-more, one_mo
 use Rattle.search.proofs.lines.put_tuples.Goals as goal
 
 pub loop-j-init : goal.loop-j-init
-loop-j-init c = (omega arith, tuples-start c.args.sentence c.args.k c.args.found.now c.args.out.now)
+loop-j-init c = (tuples-start c.args.sentence c.args.k c.args.found.now c.args.out.now)
 
 pub overflow_mul-j : goal.overflow_mul-j
 overflow_mul-j c = let l = c.loop-j in let m = one_more l.j c.args.n c.args.k c.loop-j-test.true in omega (arith, m, c.requires.1, c.well_formed)
 
 pub put_tuple-at-requires : goal.put_tuple-at-requires
-put_tuple-at-requires c = let l = c.loop-j in let w = l.invariant.1 in let m = one_more l.j c.args.n c.args.k c.loop-j-test.true in let o = one_more l.j c.args.n ((c.args.k + 1) * 21) c.loop-j-test.true in (omega (arith, o, w.behind, w.few, wrote_length _ _ _ _ _ _ w, c.requires.0), omega (arith, m, c.requires.1))
-
-pub overflow_add-j : goal.overflow_add-j
-overflow_add-j c = omega (arith, c.ranges.n, c.loop-j-test.true)
+put_tuple-at-requires c = let l = c.loop-j in let w = l.invariant in let m = one_more l.j c.args.n c.args.k c.loop-j-test.true in let o = one_more l.j c.args.n ((c.args.k + 1) * 21) c.loop-j-test.true in (omega (arith, o, w.behind, w.few, wrote_length _ _ _ _ _ _ w, c.requires.0), omega (arith, m, c.requires.1))
 
 pub loop-j-preserved : goal.loop-j-preserved
-loop-j-preserved c = let l = c.loop-j in (search rules, tuples-more c.args.sentence c.args.k l.j c.args.found.now _ _ _ _ _ l.invariant.1 c.put_tuple-at.ensures)
+loop-j-preserved c = let l = c.loop-j in (tuples-more c.args.sentence c.args.k l.j c.args.found.now _ _ _ _ _ l.invariant c.put_tuple-at.ensures)
 
 pub shape_of-out : goal.shape_of-out
-shape_of-out c = wrote_length _ _ _ _ _ _ c.loop-j.invariant.1
+shape_of-out c = wrote_length _ _ _ _ _ _ c.loop-j.invariant
 
 pub returns : goal.returns
-returns c = let l = c.loop-j in let e : l.j ≡ c.args.n = omega (arith, l.invariant.0, c.loop-j-test.false) in subst (λ (n : ℕ). Wrote c.args.out.now 0 (n * ((c.args.k + 1) * 21)) (tuple_lines c.args.sentence (chunks c.args.k n c.args.found.now)) l.out l.at) e l.invariant.1
+returns c = let l = c.loop-j in let e : l.j ≡ c.args.n = omega arith in subst (λ (n : ℕ). Wrote c.args.out.now 0 (n * ((c.args.k + 1) * 21)) (tuple_lines c.args.sentence (chunks c.args.k n c.args.found.now)) l.out l.at) e l.invariant

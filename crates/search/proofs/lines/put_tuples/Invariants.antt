@@ -4,7 +4,4 @@ use Rattle.search.specs.Wrote.{Wrote, chunks}
 use Rattle.search.proofs.lines.put_tuples.Given as goal
 
 abbrev pub invariant-loop-j : goal.invariant-loop-j
-invariant-loop-j l = (l.j ≤ l.n) × Wrote l.initial.out 0 (l.j * ((l.k + 1) * 21)) (tuple_lines l.sentence (chunks l.k l.j l.found)) l.out l.at
-
-abbrev pub decreases-loop-j : goal.decreases-loop-j
-decreases-loop-j l = l.n - l.j
+invariant-loop-j l = Wrote l.initial.out 0 (l.j * ((l.k + 1) * 21)) (tuple_lines l.sentence (chunks l.k l.j l.found)) l.out l.at

@@ -1,9 +1,0 @@
--- The proof of `agrees_at` of src/tries.rt. Assumes nothing.
-use Rattle.std.proofs.Common.{◌-◌, ◌≤◌}
-use Rattle.brackets_test.proofs.tries.agrees_at.Given as goal
-
-abbrev pub invariant-loop-j : goal.invariant-loop-j
-invariant-loop-j l = l.j ≤ 16
-
-abbrev pub decreases-loop-j : goal.decreases-loop-j
-decreases-loop-j l = 16 - l.j

@@ -1,9 +1,0 @@
--- `prune_test::random::agrees` is safe and ends. Assumes nothing.
-use Rattle.std.proofs.Common.{◌-◌, ◌≤◌}
-use Rattle.prune_test.proofs.random.agrees.Given as goal
-
-abbrev pub invariant-loop-i : goal.invariant-loop-i
-invariant-loop-i l = l.i ≤ l.n
-
-abbrev pub decreases-loop-i : goal.decreases-loop-i
-decreases-loop-i l = l.n - l.i

@@ -1,9 +1,0 @@
--- `sets_test::rows::set_words` is safe and ends. Assumes nothing.
-use Rattle.std.proofs.Common.{length, ◌-◌, ◌≡◌, ◌≤◌}
-use Rattle.sets_test.proofs.rows.set_words.Given as goal
-
-abbrev pub invariant-loop-i : goal.invariant-loop-i
-invariant-loop-i l = (l.i ≤ length l.initial.s) × (length l.s ≡ length l.initial.s)
-
-abbrev pub decreases-loop-i : goal.decreases-loop-i
-decreases-loop-i l = length l.initial.s - l.i
