@@ -1,4 +1,5 @@
-// The three entries asked with buffers that hold a pattern: what they tell, and which places they changed.
+// The three entries asked with buffers that hold a pattern: what they tell, and which places they changed. Refusals, axes and
+// sets are told by document 01's numbers, in which the tests are written.
 use meaning::{Ending, Listing};
 use trials::buffers::{fill, kept, zero};
 use trials::questions::Question;
@@ -11,7 +12,7 @@ pub(crate) fn listing(ending: Ending, tuples: usize, strikings: u64) -> Listing 
     }
 }
 
-// W words for sets and P places for answers, of each of which the first are lent.
+// W words for sets and P places for answers, of each of which the first are lent: the numbers say how many, not what is held.
 #[derive(Drop)]
 pub(crate) struct Buffers<const W: usize, const P: usize> {
     words: [u64; W],

@@ -1,6 +1,6 @@
 // Table D of document 01 and its queries; the costs that the document does not give are worked out by hand.
 use crate::ask::listing;
-use crate::heads::{head_one, head_two};
+use crate::heads::with_head;
 use crate::judge::{after_in, list_in, yes_no};
 use meaning::Ending::{Finished, Full, Spent};
 use meaning::{Listing, Query};
@@ -30,7 +30,7 @@ fn finds(q: Query, tuple: &[u16], next: Option<&[u16]>) -> u64 {
 
 // Q(x,y) <- NP(x), Child+(x,y), NN(y): C(1) = 0, C(2) = 3, S = 6.
 fn nouns() -> Query {
-    let mut q = head_two(two(1, 0, 1), 0, 1);
+    let mut q = with_head(two(1, 0, 1), &[0, 1]);
     q.label_count = 2;
     q.labels[0] = carries(0, 0);
     q.labels[1] = carries(1, 1);
@@ -66,7 +66,7 @@ pub(crate) fn rooms() -> u64 {
 // y and 0 to 3 from x: 5. The search after each answer but the last strikes 8, and row 0, the last in post-order: 2. After
 // row 4 only row 0 is left to x, and all three rows are struck: S = 5 + 5 * 2 + 3.
 fn following() -> Query {
-    let mut q = head_one(two(6, 1, 0), 0);
+    let mut q = with_head(two(6, 1, 0), &[0]);
     q.label_count = 1;
     q.labels[0] = carries(1, 0);
     q
@@ -89,7 +89,7 @@ pub(crate) fn post_order() -> u64 {
 // Child(y,x). The first pruning strikes row 0 from x and the five leaves from y: 6. After an answer x is held to later rows,
 // and y loses each row with no child among them: after 1, 4, 2, 3, 5, 6, 7, 8, 9 that is 5, 6, 6, 7, 7, 8, 8, 9 and 10.
 fn children() -> Query {
-    head_one(two(0, 1, 0), 0)
+    with_head(two(0, 1, 0), &[0])
 }
 
 fn by_levels(allowance: u64, places: usize, expect: Listing) -> u64 {
@@ -134,7 +134,7 @@ fn every_row(q: Query, allowance: u64, places: usize, expect: Listing) -> u64 {
 
 // A variable with no condition may be any row.
 pub(crate) fn any_row() -> u64 {
-    let a = every_row(head_one(free(3), 1), 0, 11, listing(Finished, 10, 0));
+    let a = every_row(with_head(free(3), &[1]), 0, 11, listing(Finished, 10, 0));
     total(&[a, says(free(3), true)])
 }
 

@@ -4,18 +4,13 @@ use trials::cells::byte;
 use trials::draw::draw;
 use trials::queries;
 
-pub(crate) fn head_one(old: Query, x: u8) -> Query {
+// The query with a head of up to eight variables.
+pub(crate) fn with_head(old: Query, head: &[u8]) -> Query {
     let mut q = old;
-    q.head_count = 1;
-    q.head[0] = x;
-    q
-}
-
-pub(crate) fn head_two(old: Query, x: u8, y: u8) -> Query {
-    let mut q = old;
-    q.head_count = 2;
-    q.head[0] = x;
-    q.head[1] = y;
+    q.head_count = head.len();
+    for (place, x) in q.head.iter_mut().zip(head) {
+        *place = *x;
+    }
     q
 }
 

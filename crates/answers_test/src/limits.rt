@@ -1,6 +1,6 @@
 // Each refusal from both sides of its limit, for each of the three entries, and what is left in the buffers.
 use crate::ask::{Buffers, listing};
-use crate::heads::head_one;
+use crate::heads::with_head;
 use meaning::{Ending, Query};
 use trials::cells::{total, wrong};
 use trials::queries::{alike, axis, carries, free};
@@ -47,7 +47,7 @@ fn accepted(entry: Entry, asked: Question, words: usize, used: usize) -> u64 {
 
 // Variables with no condition, the first in the head.
 fn headed(v: usize) -> Query {
-    head_one(free(v), 0)
+    with_head(free(v), &[0])
 }
 
 fn no_row(entry: Entry, column: &[u16]) -> u64 {

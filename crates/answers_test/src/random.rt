@@ -1,5 +1,5 @@
 // Trees and queries drawn by chance: each entry against what trying every choice gives.
-use crate::costs::{ASTRAY, Costs};
+use crate::costs::Costs;
 use crate::order::{Case, TUPLES, set_of};
 use crate::tried::{List, Shown};
 use crate::{heads, judge};
@@ -128,10 +128,9 @@ fn lists_about(case: &Case, costs: &Costs, list: &List) -> u64 {
 }
 
 fn listed(kind: Kind, case: &Case, shown: &Shown, list: &List) -> Outcome {
-    let costs = Costs::of(case, shown);
-    if ASTRAY <= costs.all {
+    let Some(costs) = Costs::of(case, shown) else {
         return FAILED;
-    }
+    };
     Outcome {
         bad: match kind {
             Kind::Every => lists_every(case, &costs, list),

@@ -4,7 +4,7 @@ ghost use Rattle.meaning.specs.Sentences.{white, inner};
 ghost use Rattle.brackets.specs.Reader.{skip};
 ghost use Rattle.brackets.specs.Meets.{Letters};
 
-// The byte at a place, and 0 past the end: no byte of a sentence is 0.
+// The byte at a place, and 0 past the end: no byte of a sentence is 0. Callers compare it with one byte, as they would an Option.
 pub(crate) fn peek(text: &[u8], at: usize) -> u8
     ensures { result ≡ get_or text.now at 0 }
 {
@@ -25,7 +25,7 @@ pub(crate) fn is_inner(b: u8) -> bool
     b')' < b || b' ' < b && b < b'('
 }
 
-// Where the white space at a place ends.
+// Where the white space at a place ends. Here and below `position` would count from the place, and not from the text's front.
 pub(crate) fn skip_white(text: &[u8], at: usize) -> usize
     requires { at ≤ length text.now }
     ensures { (drop result text.now ≡ skip (drop at text.now)) × (at ≤ result) × (result ≤ length text.now) }

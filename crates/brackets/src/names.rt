@@ -6,7 +6,7 @@ use arrayvec::ArrayVec;
 use meaning::Refusal;
 use std::marker::Model;
 
-// What a label has for a number where the list does not have its name.
+// What a label has for a number where the list does not have its name: document 01's number stands in the column.
 const UNNAMED: u16 = 65535;
 
 // A list of at most 32 names: where each ends, and the bytes that names begin with. - and = are noted, too: before them a

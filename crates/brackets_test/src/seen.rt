@@ -1,6 +1,8 @@
-// One trial each: what a reading answers, what it leaves in the columns, and the rest.
+// One trial each: what a reading answers, what it leaves in the columns, and the rest. Refusals are told by document 01's number
+// and the place, in which the tests are written.
 use meaning::SentenceReading;
 
+// Printed by the kit's io, which takes bytes and numbers.
 pub(crate) fn fails(trial: u64, ok: bool) {
     if !ok {
         io::print_decimal(1, trial);
@@ -102,12 +104,7 @@ pub(crate) fn sentences(text: &[u8]) -> usize {
 
 // Every cut of a legal text ends early, so its length is the place.
 pub(crate) fn cuts(text: &[u8]) -> bool {
-    for n in 0..text.len() {
-        if !refused(&text[..n], 11, n) {
-            return false;
-        }
-    }
-    true
+    (0..text.len()).all(|n| refused(&text[..n], 11, n))
 }
 
 // Every byte of a legal text damaged, one at a time: the place is that byte. The text fills the buffer.

@@ -1,48 +1,5 @@
-// Texts put together from parts, and texts at the limits.
-ghost use Rattle.std.specs.Prelude.{◌≤◌};
-
-// A text of N bytes at most.
-#[derive(Drop)]
-pub(crate) struct Text<const N: usize> {
-    room: [u8; N],
-    len: usize,
-    ghost in_room: { len ≤ N },
-}
-
-impl<const N: usize> Text<N> {
-    pub(crate) fn new() -> Text<N> {
-        Text {
-            room: [0; N],
-            len: 0,
-        }
-    }
-
-    // Adds as much of a part as there is room for.
-    pub(crate) fn add(&mut self, part: &[u8]) {
-        let n = part.len().min(N - self.len);
-        let room = &mut self.room[..];
-        room[self.len..self.len + n].copy_from_slice(&part[..n]);
-        self.len += n;
-    }
-
-    pub(crate) fn add_times(&mut self, part: &[u8], n: usize) {
-        for _ in 0..n {
-            self.add(part);
-        }
-    }
-
-    // Puts one byte in the place of another.
-    pub(crate) fn put(&mut self, i: usize, b: u8) {
-        if i < self.len {
-            self.room[i] = b;
-        }
-    }
-
-    pub(crate) fn bytes(&self) -> &[u8] {
-        let room = &self.room[..];
-        &room[..self.len]
-    }
-}
+// Short and long texts, and texts at the limits.
+use trials::texts::Text;
 
 pub(crate) fn long_word(n: usize) -> Text<128> {
     let mut text = Text::new();

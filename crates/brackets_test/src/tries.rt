@@ -1,7 +1,8 @@
 // The place of a damaged or cut text, compared with one that is found by trying: the longest beginning that some legal
 // sentence continues. The reader is asked here only whether a completed text is one sentence, never for a place.
 use crate::seen::read;
-use crate::texts::{Text, long_label, long_word};
+use crate::texts::{long_label, long_word};
+use trials::texts::Text;
 
 // The whole text is one sentence, with nothing behind it.
 fn is_sentence(text: &[u8]) -> bool {
@@ -44,12 +45,10 @@ fn continues(beginning: &[u8]) -> bool {
 
 // The length of the longest beginning that some legal sentence continues; every sentence continues the empty one.
 fn longest(text: &[u8]) -> usize {
-    for p in (1..=text.len()).rev() {
-        if continues(&text[..p]) {
-            return p;
-        }
-    }
-    0
+    (1..=text.len())
+        .rev()
+        .find(|p| continues(&text[..*p]))
+        .unwrap_or(0)
 }
 
 // The text is refused with 11 at the place found by trying, or read up to where a sentence ends.
@@ -62,12 +61,7 @@ fn agrees(text: &[u8]) -> bool {
 
 // Every cut, the empty text and the whole one with them.
 fn agrees_cut(text: &[u8]) -> bool {
-    for n in 0..=text.len() {
-        if !agrees(&text[..n]) {
-            return false;
-        }
-    }
-    true
+    (0..=text.len()).all(|n| agrees(&text[..n]))
 }
 
 // One byte replaced.

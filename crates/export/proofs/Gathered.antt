@@ -9,6 +9,8 @@ use borrow.Author.Tests.{leb-true}
 use Rattle.meaning.specs.Tests.{tab}
 use Rattle.meaning.specs.Names.{pick}
 use Rattle.meaning.specs.Query.{firsts, asked, no_label, no-condition}
+use Rattle.std.proofs.Common.{refl}
+use Rattle.meaning.specs.QueryTexts.{made, blank_query}
 use Rattle.meaning.specs.declared.Condition.{Condition}
 use Rattle.meaning.specs.declared.LabelCondition.{LabelCondition}
 use Rattle.meaning.specs.declared.Query.{Query}
@@ -45,6 +47,6 @@ pub asked-whole : (v : ℕ) (h ls cs : List ℕ) (a : List ℕ) (b : List LabelC
 unfolding asked lent pick
 asked-whole v h ls cs a b c w e f g = rw (w, e, f, g)
 
-pub asked_none : (v : ℕ) (h ls cs : List ℕ) (q : Query) → is_whole (length h) (length ls) (length cs) ≡ false → asked q ≡ no_question → asked q ≡ lent v h ls cs
-unfolding lent pick
-asked_none v h ls cs q w e = rw w e
+pub asked_none : (v : ℕ) (h ls cs : List ℕ) (q : Query) → is_whole (length h) (length ls) (length cs) ≡ false → q ≡ blank_query → asked q ≡ lent v h ls cs
+unfolding lent pick asked blank_query made firsts tab
+asked_none v h ls cs q w e = rw (w, e) refl

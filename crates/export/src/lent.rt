@@ -1,4 +1,5 @@
-// A query as lists of numbers: gathered into a query by value, and written out from one.
+// A query as lists of numbers: gathered into a query by value, and written out from one. C lends plain numbers, two for a label
+// condition and three for an axis condition, so each kind of list has its own loops.
 ghost use Rattle.std.specs.Prelude.{◌≡◌, ℕ, ◌*◌, ◌≤◌, ◌<◌, length, get_or};
 ghost use Rattle.meaning.specs.Query.{asked, no_label, no-condition};
 ghost use Rattle.meaning.specs.QueryTexts.{query_for};
@@ -12,26 +13,14 @@ use meaning::{Condition, LabelCondition, Query, QueryReading, Refusal};
 fn narrow(x: u16) -> u8
     ensures { result ≡ narrowed x }
 {
-    if 255 < x { 255 } else { x as u8 }
+    u8::try_from(x).unwrap_or(u8::MAX)
 }
 
 // The lists hold a head of at most 8 and whole conditions, at most 32 of each kind.
 fn is_whole(head: usize, labels: usize, axes: usize) -> bool
     ensures { result ≡ is_whole head labels axes }
 {
-    if 8 < head {
-        return false;
-    }
-    if 64 < labels {
-        return false;
-    }
-    if labels % 2 != 0 {
-        return false;
-    }
-    if 96 < axes {
-        return false;
-    }
-    axes % 3 == 0
+    head <= 8 && labels <= 64 && labels % 2 == 0 && axes <= 96 && axes % 3 == 0
 }
 
 fn gather_head(head: &[u8]) -> [u8; 8]
@@ -47,10 +36,7 @@ fn gather_labels(labels: &[u16], n: usize) -> [LabelCondition; 32]
     requires { (n ≤ 32) × (2 * n ≤ length labels.now) }
     ensures { (k : ℕ) → k < n → get_or result k no_label ≡ lent_label labels.now k }
 {
-    let mut out = [LabelCondition {
-        variable: 0,
-        label: 0,
-    }; 32];
+    let mut out = [LabelCondition::NONE; 32];
     for i in 0..n {
         out[i] = LabelCondition {
             variable: narrow(labels[2 * i]),
@@ -64,11 +50,7 @@ fn gather_axes(axes: &[u8], n: usize) -> [Condition; 32]
     requires { (n ≤ 32) × (3 * n ≤ length axes.now) }
     ensures { (k : ℕ) → k < n → get_or result k no-condition ≡ lent_axis axes.now k }
 {
-    let mut out = [Condition {
-        code: 0,
-        first: 0,
-        second: 0,
-    }; 32];
+    let mut out = [Condition::NONE; 32];
     for i in 0..n {
         out[i] = Condition {
             code: axes[3 * i],
@@ -79,33 +61,12 @@ fn gather_axes(axes: &[u8], n: usize) -> [Condition; 32]
     out
 }
 
-fn no_query() -> Query
-    ensures { asked result ≡ no_question }
-{
-    Query {
-        variables: 0,
-        head_count: 0,
-        head: [0u8; 8],
-        label_count: 0,
-        labels: [LabelCondition {
-            variable: 0,
-            label: 0,
-        }; 32],
-        axis_count: 0,
-        axes: [Condition {
-            code: 0,
-            first: 0,
-            second: 0,
-        }; 32],
-    }
-}
-
 // The query of the lists. Any lists: those that hold no query within the limits give one that is refused 4.
 pub(crate) fn gather(variables: usize, head: &[u8], labels: &[u16], axes: &[u8]) -> Query
     ensures { asked result ≡ lent variables head.now labels.now axes.now }
 {
     if !is_whole(head.len(), labels.len(), axes.len()) {
-        return no_query();
+        return Query::blank();
     }
     let h = gather_head(head);
     let label_count = labels.len() / 2;

@@ -4,6 +4,7 @@
 
 ghost use Rattle.std.specs.Prelude.{◌≡◌};
 ghost use Rattle.meaning.specs.Told.{number, place};
+ghost use Rattle.meaning.specs.QueryTexts.{blank_query};
 ghost use Rattle.meaning.specs.AxisCodes.{IsAxisOf};
 
 // An axis, by its name in document 01.
@@ -38,12 +39,22 @@ impl TryFrom<u8> for Axis {
     }
 }
 
-// An axis condition: the axis by its code, and two variables, perhaps the same one twice.
+// An axis condition: the axis by its code, which may be any number until the query is checked, and two variables, perhaps the
+// same one twice.
 #[derive(Clone, Copy)]
 pub struct Condition {
     pub code: u8,
     pub first: u8,
     pub second: u8,
+}
+
+impl Condition {
+    // What stands in a place that does not count.
+    pub const NONE: Condition = Condition {
+        code: 0,
+        first: 0,
+        second: 0,
+    };
 }
 
 // A label condition: the variable's row must carry the label.
@@ -53,7 +64,16 @@ pub struct LabelCondition {
     pub label: u16,
 }
 
-// A query by value. Of each array the first places count, as many as its number says.
+impl LabelCondition {
+    // What stands in a place that does not count.
+    pub const NONE: LabelCondition = LabelCondition {
+        variable: 0,
+        label: 0,
+    };
+}
+
+// A query by value. Of each array the first places count, as many as its number says. The arrays are fixed, because there is no
+// heap. The counts stand beside them, because any count may come in: one past its array is refused.
 #[derive(Clone, Copy)]
 pub struct Query {
     pub variables: usize,
@@ -63,6 +83,23 @@ pub struct Query {
     pub labels: [LabelCondition; 32],
     pub axis_count: usize,
     pub axes: [Condition; 32],
+}
+
+impl Query {
+    // The query with no variable and no condition.
+    pub fn blank() -> Query
+        ensures { result ≡ blank_query }
+    {
+        Query {
+            variables: 0,
+            head_count: 0,
+            head: [0; 8],
+            label_count: 0,
+            labels: [LabelCondition::NONE; 32],
+            axis_count: 0,
+            axes: [Condition::NONE; 32],
+        }
+    }
 }
 
 // Why an input is refused; the reasons in the order of document 01's numbers 1 to 13, with their places.

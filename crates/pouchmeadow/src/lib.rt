@@ -21,7 +21,8 @@ pub struct TreeView<'a> {
     pub label: &'a [u16],
 }
 
-// A query but for its axis conditions. Of each array the first places count, as many as its number says.
+// A query but for its axis conditions, which are lent beside it, as document 01 has it. Of each array the first places count, as
+// many as its number says: no heap.
 #[derive(Clone, Copy)]
 pub struct Terms {
     pub variables: usize,
@@ -31,7 +32,8 @@ pub struct Terms {
     pub labels: [LabelCondition; 32],
 }
 
-// The terms of a query by value, as the reader of query texts gives one. Its axis conditions can then be lent as a list.
+// The terms of a query by value, as the reader of query texts gives one. Its axis conditions can then be lent as a list. The name
+// is promised, so it is no `From`.
 pub fn terms_of(q: Query) -> Terms
     ensures { TakesTerms q result }
 {
@@ -53,7 +55,7 @@ pub fn check_table<'a>(tree: TreeView<'a>) -> Result<(), Refusal>
     table::check_table(tree.post, tree.label)
 }
 
-// The axis test on an accepted table.
+// The axis test on an accepted table. The code may be any number, as document 01's axis test has it.
 fn axis_of_tree(post: &[u16], code: u8, p: usize, q: usize) -> bool
     requires { Accepted post.now }
     ensures { result ≡ axis_among post.now code p q }
@@ -93,7 +95,7 @@ pub fn axis_holds<'a>(tree: TreeView<'a>, code: u8, p: usize, q: usize) -> bool
     axis_on(tree.post, tree.label, code, p, q)
 }
 
-// One record of a lent list, by value.
+// One record of a lent list, by value. Document 01's form: few thin functions read the list.
 fn condition_of(axes: &[Condition], i: usize) -> Condition
     requires { i < length axes.now }
     ensures { result ≡ get_or axes.now i no-condition }
@@ -105,12 +107,6 @@ fn condition_of(axes: &[Condition], i: usize) -> Condition
 fn empty(terms: Terms, n: usize) -> Query
     ensures { result ≡ gathered terms [] n 0 }
 {
-    let none = Condition {
-        code: 0,
-        first: 0,
-        second: 0,
-    };
-    let axes = [none; 32];
     let head = terms.head;
     let labels = terms.labels;
     Query {
@@ -120,7 +116,7 @@ fn empty(terms: Terms, n: usize) -> Query
         label_count: terms.label_count,
         labels,
         axis_count: n,
-        axes,
+        axes: [Condition::NONE; 32],
     }
 }
 

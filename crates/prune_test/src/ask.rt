@@ -1,4 +1,5 @@
-// The library asked with a buffer that holds a pattern: its answer, and which words it changed.
+// The library asked with a buffer that holds a pattern: its answer, and which words it changed. Refusals and axes are told by
+// document 01's numbers, in which the tests are written.
 use trials::buffers::{fill, kept};
 use trials::cells::wrong;
 use trials::questions::Question;

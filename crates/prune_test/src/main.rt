@@ -8,6 +8,7 @@ mod large;
 mod limits;
 mod random;
 
+// Printed by the kit's io, which takes bytes and numbers.
 fn say(what: &[u8], bad: u64) {
     let _a = io::write_all(1, what);
     let _b = io::print_decimal(1, bad);

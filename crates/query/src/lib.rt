@@ -10,7 +10,9 @@ ghost use Rattle.query.specs.Check.{are_axes_of, one_set_of};
 
 use meaning::{Condition, Query, Refusal};
 
-// The set that an axis is in; 0 for a code that is no axis. A number, not an Option: the public promise is `set_of`.
+// The set that an axis is in; 0 for a code that is no axis. A number, not an Option: the public promise is `set_of`. By
+// codes, not
+// by `Axis`: of `Ok(Axis::ChildPlus | Axis::ChildStar)` a proof does not learn which, so each axis would take an arm of its own.
 pub fn axis_set(code: u8) -> u8
     ensures { result ≡ set_of code }
 {
@@ -33,7 +35,7 @@ fn is_counted(q: &Query) -> bool
         && q.axis_count <= 32
 }
 
-// The code is an axis, and both variables are below v.
+// The code is an axis, and both variables are below v. A condition by value may hold any code: refusal 5 is given for it.
 fn is_axis_named(c: &Condition, v: usize) -> bool
     ensures { result ≡ is_axis_named v c.now }
 {
@@ -76,7 +78,7 @@ fn one_set(axes: &[Condition]) -> Option<u8>
     (1..4).find(|s| are_axes_of(axes, *s))
 }
 
-// Is the query accepted, and which set does it take? Any values in any field.
+// Is the query accepted, and which set does it take? Document 01's number of the set is the answer. Any values in any field.
 pub fn check_query(q: Query) -> Result<u8, Refusal>
     ensures { result ≡ query_answer (asked q) }
 {

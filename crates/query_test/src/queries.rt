@@ -1,14 +1,7 @@
-// The query check on both sides of each limit.
+// The query check on both sides of each limit. Axes and sets are document 01's numbers: a condition by value may hold any code.
 use meaning::{Condition, LabelCondition, Query, Refusal};
 use query::check_query;
-
-fn axis(code: u8, first: u8, second: u8) -> Condition {
-    Condition {
-        code,
-        first,
-        second,
-    }
-}
+use trials::queries::axis;
 
 // v variables, h head variables 0, 1, .., l label conditions on the first variable of c, a axis conditions like c.
 fn query(v: usize, h: usize, l: usize, a: usize, c: Condition) -> Query {

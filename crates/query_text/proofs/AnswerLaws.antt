@@ -16,10 +16,10 @@ use Rattle.query_text.specs.Filling.{capped, shown, filled, filling, numbered_as
 use Rattle.query_text.specs.Room.{room_of}
 use Rattle.query_text.specs.declared.filling.Filling.{Filling}
 use Rattle.query_text.specs.declared.filling.Item.TheVariants.{Head}
-use Rattle.query_text.specs.declared.tables.Seen.{Seen}
 use Rattle.query_text.proofs.JudgeLaws.{neither, one_of, other_of}
+use Rattle.query_text.proofs.TableLaws.{texts_length}
 use Rattle.query_text.proofs.FillLaws.{capped_in, capped_out, whole_query}
-use Rattle.query_text.proofs.ReadLaws.{Reads}
+use Rattle.query_text.proofs.ReadLaws.{Seen, Reads}
 
 -- 1. The counts.
 pub refused_variables : (q : Said) → 16 < length (variables q) → outside q ≡ true
@@ -82,7 +82,7 @@ whole_of q hg hl ha = rw (hg, hl, ha)
 
 -- 2. All words are read: the query is that of the text.
 pub reads_end : (s rest : List ℕ) (f : Filling) (vs ns : Seen) → Reads s rest f vs ns → words [] rest ≡ []
-    → (outside (said s) ≡ false) × (numbered_as vs.count f.query ≡ query_of (said s)) × (ns.count ≤ 32) × (texts ns ≡ names (said s)) × Within (numbered_as vs.count f.query)
+    → (outside (said s) ≡ false) × (numbered_as (length vs.items) f.query ≡ query_of (said s)) × (texts ns ≡ names (said s)) × Within (numbered_as (length vs.items) f.query)
 unfolding outside once vars_in names_in fill_words
 reads_end s rest f vs ns R e =
     let q = said s in
@@ -94,11 +94,10 @@ reads_end s rest f vs ns R e =
     let h = ltb-false 8 (length (heads q)) (not_one _ _ o) in
     let l = ltb-false 32 (length (labels q)) (not_one _ _ (not_other _ _ o)) in
     let a = ltb-false 32 (length (axis_conditions q)) (not_other _ _ (not_other _ _ o)) in
-    let n : vs.count ≡ length (variables q) = R.whole_variables ∙ ap length tv in
-    let m : ns.count ≡ length (names q) = R.whole_names ∙ ap length tn in (
+    let n : length vs.items ≡ length (variables q) = sym (texts_length vs) ∙ ap length tv in
+    let m : length ns.items ≡ length (names q) = sym (texts_length ns) ∙ ap length tn in (
       neither _ _ (le-ltb 16 (length (variables q)) (let k = R.few_variables in omega arith)) (neither _ _ (le-ltb 32 (length (names q)) (let k = R.few_names in omega arith)) o),
-      ap (numbered_as vs.count) p ∙ numbered_shown vs.count q ∙ ap (λ (k : ℕ). shown_of k q) n ∙ whole_of q (capped_in 8 (heads q) h) (capped_in 32 (labels q) l) (capped_in 32 (axis_conditions q) a),
-      R.few_names,
+      ap (numbered_as (length vs.items)) p ∙ numbered_shown (length vs.items) q ∙ ap (λ (k : ℕ). shown_of k q) n ∙ whole_of q (capped_in 8 (heads q) h) (capped_in 32 (labels q) l) (capped_in 32 (axis_conditions q) a),
       tn,
       record { heads = R.inside.heads; labels = R.inside.labels; axes = R.inside.axes },
     )

@@ -1,27 +1,14 @@
 -- A search through the numbers below n is one through the list. Assumes nothing.
-use Rattle.std.proofs.Common.{◌≡◌, ℕ, zero, suc, ◌+◌, ◌<◌, ◌≤◌, Bool, true, false, ◌||◌, List, [], ◌∷◌, length, get_or, take, not, refl, sym, ap, ◌∙◌, arith}
-use Rattle.std.specs.List.{list_any}
-use Rattle.std.proofs.Math.Dec.{ltb, eqb}
-use borrow.Author.Tests.{ltb-true, ltb-false}
+use Rattle.std.proofs.Common.{◌≡◌, ℕ, zero, suc, ◌<◌, ◌≤◌, Bool, true, false, ◌||◌, ◌==◌, List, [], ◌∷◌, length, get_or, take, not, refl, sym, ap, ◌∙◌, arith, zero-add, get_or-take, length-take-le, take_all}
+use Rattle.std.specs.List.{list_any, enumerate_from}
+use Rattle.std.proofs.lemmas.List.FromFn.{length-enumerate_from, get_or-enumerate_from}
+use Rattle.std.proofs.Math.Dec.{eqb}
 use Rattle.meaning.specs.Tests.{◌or◌, non, some}
-use Rattle.meaning.specs.QueryTexts.{in_label_condition, in_axis_condition, unused, no_label, no-condition}
+use Rattle.meaning.specs.QueryTexts.{twice, in_label_condition, in_axis_condition, unused, no_label, no-condition}
 use Rattle.meaning.specs.declared.LabelCondition.{LabelCondition}
 use Rattle.meaning.specs.declared.Condition.{Condition}
 use Rattle.meaning.specs.declared.Query.{Query}
 use Rattle.query_text.proofs.ByteLaws.{either_is}
-
-pub none_yet : (p : ℕ → Bool) → some 0 p ≡ false
-unfolding some
-none_yet p = refl
-
-pub none_more : (p : ℕ → Bool) (i : ℕ) → some i p ≡ false → p i ≡ false → some (i + 1) p ≡ false
-unfolding some ◌or◌
-none_more p i h e =
-    let d : i + 1 ≡ suc i = omega arith in
-    ap (λ (k : ℕ). some k p) d ∙ ap (λ (z : Bool). z or some i p) e ∙ h
-
-pub none_all : (p : ℕ → Bool) (n i : ℕ) → i ≤ n → n ≤ i → some i p ≡ false → false ≡ some n p
-none_all p n i l m h = let e : i ≡ n = omega arith in sym h ∙ ap (λ (k : ℕ). some k p) e
 
 either_end : (a : Bool) → (a || false) ≡ (a or false)
 unfolding ◌or◌
@@ -70,22 +57,27 @@ head_asked q l =
     any_same (λ (v : ℕ). not (in_label_condition q v or in_axis_condition q v)) (λ (v : ℕ). non (in_label_condition q v or in_axis_condition q v)) (λ v. not_non (in_label_condition q v or in_axis_condition q v)) (take q.head_count q.«head»)
     ∙ some_any (λ (v : ℕ). non (in_label_condition q v or in_axis_condition q v)) 0 q.«head» q.head_count l
 
--- one that passes makes the search pass
-pub some_at : (p : ℕ → Bool) (n i : ℕ) → i < n → p i ≡ true → true ≡ some n p
-unfolding some ◌or◌
-some_at p zero i l e = absurd (omega arith)
-some_at p (suc n) i l e = go (ltb i n) refl (some_at p n i)
-  where
-    late : (z : Bool) → some n p ≡ true → true ≡ (z or some n p)
-    late true h = refl
-    late false h = sym h
+-- the places of the head, each with the variable there, as the code looks at them
+abbrev pub is_repeated : List ℕ → ℕ × ℕ → Bool
+is_repeated h (i, x) = list_any (λ y. y == x) (take i h)
 
-    go : (z : Bool) → ltb i n ≡ z → (i < n → p i ≡ true → true ≡ some n p) → true ≡ (p n or some n p)
-    go true d h = late (p n) (sym (h (ltb-true i n d) e))
-    go false d h =
-        let k = ltb-false i n d in
-        let s : n ≡ i = omega arith in
-        sym (ap (λ (z : Bool). z or some n p) (ap p s ∙ e))
+some_same : (n : ℕ) (p q : ℕ → Bool) → ((i : ℕ) → i < n → p i ≡ q i) → some n p ≡ some n q
+unfolding some
+some_same zero p q h = refl
+some_same (suc n) p q h = rw (h n (omega arith), some_same n p q (λ i l. h i (omega arith))) refl
+
+pub head_repeated : (q : Query) → q.head_count ≤ length q.«head» → list_any (is_repeated (take q.head_count q.«head»)) (enumerate_from 0 (take q.head_count q.«head»)) ≡ twice q
+unfolding twice
+head_repeated q l =
+    let h = take q.head_count q.«head» in
+    let n : length h ≡ q.head_count = length-take-le q.head_count q.«head» l in
+    let e = enumerate_from 0 h in
+    let m : length e ≡ q.head_count = length-enumerate_from 0 h ∙ n in
+    ap (list_any (is_repeated h)) (sym (take_all q.head_count e (omega (arith, m))))
+    ∙ some_any (is_repeated h) (0, 0) e q.head_count (omega (arith, m))
+    ∙ some_same q.head_count _ _ (λ i k. ap (is_repeated h) (get_or-enumerate_from 0 h i (0, 0) (omega (arith, n)) ∙ ap (λ (j : ℕ). (j, get_or h i 0)) (zero-add i))
+    ∙ some_any (λ y. y == get_or h i 0) 0 h i (omega (arith, n))
+    ∙ some_same i _ _ (λ j d. let a = get_or-take q.head_count q.«head» j 0 (omega arith) in let b = get_or-take q.head_count q.«head» i 0 k in rw (a, b) refl))
 
 pub neither : (a b : Bool) → a ≡ false → b ≡ false → (a or b) ≡ false
 unfolding ◌or◌

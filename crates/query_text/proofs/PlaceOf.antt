@@ -1,9 +1,11 @@
 -- The place of a word among others, which are told apart byte by byte. Assumes nothing.
-use Rattle.std.proofs.Common.{◌≡◌, ℕ, zero, suc, ◌<◌, ◌≤◌, Bool, true, false, List, [], ◌∷◌, length, get_or, map, Bor, refl, ap, ◌∙◌, arith}
+use Rattle.std.proofs.Common.{◌≡◌, ℕ, suc, ◌+◌, ◌<◌, Bool, true, false, List, [], ◌∷◌, length, map, Bor, Option, Some, None, MatchOption, cond, refl, ◌∙◌, arith}
+use Rattle.std.specs.List.{position_or_len}
 use Rattle.std.proofs.lemmas.List.{length-map}
-use Rattle.std.proofs.Math.Dec.{eqb}
+use Rattle.std.proofs.lemmas.List.Recursion.{is_position_or_len}
+use Rattle.std.proofs.Math.Dec.{eqb, ltb}
 use lib.Pointwise.{pointwise}
-use borrow.Author.Tests.{lt-ltb, le-ltb, ltb-true}
+use borrow.Author.Tests.{ltb-true}
 use Rattle.meaning.specs.Axes.{axes}
 use Rattle.meaning.specs.Texts.{pick}
 use Rattle.meaning.specs.QueryTexts.{same, place_in, has, axis-names}
@@ -20,30 +22,23 @@ same_is (b ∷ u) (c ∷ v) = both_is (eqb b c) (same u v) ∙ simp (same_is u v
 abbrev pub words_of : List (Bor (List ℕ)) → List (List ℕ)
 words_of xs = map (λ x. x.now) xs
 
--- entry k of a table is the word
-abbrev pub Here : List (Bor (List ℕ)) → List ℕ → ℕ → Bool → Type 0
-Here xs w k z = pointwise eqb (get_or xs k (record { ref_ptr = (0, 0); now = [] })).now w ≡ z
-
-found_at : (w : List ℕ) (xs : List (Bor (List ℕ))) (i : ℕ) → i < length xs → ((k : ℕ) → k < i → Here xs w k false) → Here xs w i true → i ≡ place_in (words_of xs) w
+place_first : (w : List ℕ) (xs : List (Bor (List ℕ))) → place_in (words_of xs) w ≡ position_or_len (λ x. pointwise eqb x.now w) xs
 unfolding place_in pick
-found_at w [] i l h e = absurd (omega arith)
-found_at w (x ∷ xs) zero l h e = rw (same_is x.now w ∙ e)
-found_at w (x ∷ xs) (suc i) l h e = rw (same_is x.now w ∙ h 0 (omega arith)) (ap suc (found_at w xs i (omega arith) (λ k d. h (suc k) (omega arith)) e))
-
-pub place_hit : (w : List ℕ) (xs : List (Bor (List ℕ))) (i : ℕ) → i < length xs → ((k : ℕ) → k < i → Here xs w k false) → Here xs w i true → (has (words_of xs) w ≡ true) × (i ≡ place_in (words_of xs) w)
-unfolding has
-place_hit w xs i l h e =
-    let p = found_at w xs i l h e in
-    let n = length-map xs (λ (x : Bor (List ℕ)). x.now) in
-    (lt-ltb (place_in (words_of xs) w) (length (words_of xs)) (omega (arith, p, n)), p)
-
-pub place_none : (w : List ℕ) (xs : List (Bor (List ℕ))) → ((k : ℕ) → k < length xs → Here xs w k false) → has (words_of xs) w ≡ false
-unfolding has place_in pick
-place_none w xs h = le-ltb (place_in (words_of xs) w) (length (words_of xs)) (go xs h)
+place_first w xs = is_position_or_len (λ ys. place_in (words_of ys) w) (λ x. pointwise eqb x.now w) refl (λ x ys. on (pointwise eqb x.now w) (same_is x.now w) (place_in (words_of ys) w)) xs
   where
-    go : (xs : List (Bor (List ℕ))) → ((k : ℕ) → k < length xs → Here xs w k false) → length (words_of xs) ≤ place_in (words_of xs) w
-    go [] h = omega arith
-    go (x ∷ xs) h = rw (same_is x.now w ∙ h 0 (omega arith)) (let r = go xs (λ k d. h (suc k) (omega arith)) in omega arith)
+    on : {b : Bool} (z : Bool) → b ≡ z → (n : ℕ) → pick b 0 (suc n) ≡ cond z 0 (1 + n)
+    on true e n = rw e
+    on false e n = rw e (omega arith)
+
+-- the place of a word, as `position` finds it
+pub place_found : (w : List ℕ) (xs : List (Bor (List ℕ))) (r : Option ℕ) → (let p = position_or_len (λ x. pointwise eqb x.now w) xs in r ≡ cond (ltb p (length xs)) (Some p) None)
+    → MatchOption r (has (words_of xs) w ≡ false) (λ k. (has (words_of xs) w ≡ true) × (k ≡ place_in (words_of xs) w) × (k < length xs))
+unfolding has
+place_found w xs r e = rw (e, place_first w xs, length-map xs (λ (x : Bor (List ℕ)). x.now)) (go (position_or_len (λ x. pointwise eqb x.now w) xs) _ refl)
+  where
+    go : (p : ℕ) (z : Bool) → ltb p (length xs) ≡ z → MatchOption (cond z (Some p) None) (z ≡ false) (λ k. (z ≡ true) × (k ≡ p) × (k < length xs))
+    go p true d = (refl, refl, ltb-true p (length xs) d)
+    go p false d = refl
 
 pub axis_below : (w : List ℕ) → has axis-names w ≡ true → place_in axis-names w < 7
 unfolding has axis-names axes

@@ -1,5 +1,5 @@
 -- The reading, word by word, is what the words say. Assumes nothing.
-use Rattle.std.proofs.Common.{◌≡◌, ℕ, suc, ◌<◌, ◌≤◌, Bool, true, false, List, [], ◌∷◌, ◌++◌, length, drop, refl, sym, ap, ◌∙◌, arith, length-append}
+use Rattle.std.proofs.Common.{◌≡◌, ℕ, suc, ◌<◌, ◌≤◌, Bool, true, false, List, [], ◌∷◌, ◌++◌, length, drop, refl, sym, ap, ◌∙◌, Bor, arith, length-append}
 use Rattle.std.proofs.Math.Dec.{ltb}
 use borrow.Author.Tests.{le-ltb, ltb-true}
 use Rattle.meaning.specs.Tests.{◌or◌}
@@ -11,11 +11,15 @@ use Rattle.query_text.specs.Filling.{Within, over_parts, filling, variable_for, 
 use Rattle.query_text.specs.declared.filling.Item.{Item}
 use Rattle.query_text.specs.declared.filling.Item.TheVariants.{Head, Label, Axis, Second, Done}
 use Rattle.query_text.specs.declared.filling.Filling.{Filling}
-use Rattle.query_text.specs.declared.tables.Seen.{Seen}
+use Rattle.arrayvec.specs.ArrayVec.{ArrayVec}
+use Rattle.query_text.proofs.PlaceOf.{words_of}
 use Rattle.query_text.proofs.TableLaws.{noted_old, noted_new, place_at_end}
 use Rattle.query_text.proofs.FillLaws.{fill_variable, fill_axis, fill_label, words_cons}
 use Rattle.query_text.proofs.JudgeLaws.{other_of}
 use Rattle.query_text.proofs.PutLaws.{last_of}
+
+abbrev pub Seen : Type 0
+Seen = ArrayVec (Bor (List ℕ))
 
 -- 1. A word keeps its number.
 once_noted : (l : List (List ℕ)) (w : List ℕ) (ws : List (List ℕ)) → once l (w ∷ ws) ≡ once (noted l w) ws
@@ -173,22 +177,18 @@ pub record Reads (s rest : List ℕ) (f : Filling) (vs ns : Seen) : Type 0 where
   pub all_names : once (texts ns) (names_in (words [] rest)) ≡ names (said s)
   pub goes : fill_words (variables (said s)) (names (said s)) f (words [] rest) ≡ fill_words (variables (said s)) (names (said s)) (filling blank_query Head) (words [] (drop 1 s))
   pub inside : Within f.query
-  pub few_variables : vs.count ≤ 16
-  pub few_names : ns.count ≤ 32
-  pub whole_variables : vs.count ≡ length (texts vs)
-  pub whole_names : ns.count ≡ length (texts ns)
+  pub few_variables : length vs.items ≤ 16
+  pub few_names : length ns.items ≤ 32
 
-pub reads_start : (s : List ℕ) (vs ns : Seen) (q : Query) → q ≡ blank_query → (vs.count ≡ 0) × (texts vs ≡ []) → (ns.count ≡ 0) × (texts ns ≡ []) → Reads s (drop 1 s) (filling q Head) vs ns
-unfolding blank_query made
+pub reads_start : (s : List ℕ) (vs ns : Seen) (q : Query) → q ≡ blank_query → vs.items ≡ [] → ns.items ≡ [] → Reads s (drop 1 s) (filling q Head) vs ns
+unfolding blank_query made texts
 reads_start s vs ns q e p n = record {
-  all_variables = ap (λ (l : List (List ℕ)). once l (vars_in (words [] (drop 1 s)))) p.1 ∙ variables_are s;
-  all_names = ap (λ (l : List (List ℕ)). once l (names_in (words [] (drop 1 s)))) n.1 ∙ names_are s;
+  all_variables = ap (λ (l : List (List ℕ)). once l (vars_in (words [] (drop 1 s)))) (ap words_of p) ∙ variables_are s;
+  all_names = ap (λ (l : List (List ℕ)). once l (names_in (words [] (drop 1 s)))) (ap words_of n) ∙ names_are s;
   goes = ap (λ (x : Query). fill_words (variables (said s)) (names (said s)) (filling x Head) (words [] (drop 1 s))) e;
   inside = record { heads = (let h = ap (λ (x : Query). x.head_count) e in omega arith); labels = (let h = ap (λ (x : Query). x.label_count) e in omega arith); axes = (let h = ap (λ (x : Query). x.axis_count) e in omega arith) };
-  few_variables = omega (arith, p.0);
-  few_names = omega (arith, n.0);
-  whole_variables = p.0 ∙ ap length (sym p.1);
-  whole_names = n.0 ∙ ap length (sym n.1);
+  few_variables = omega (arith, ap length p);
+  few_names = omega (arith, ap length n);
 }
 
 pub behind_first : (s t : List ℕ) (m : ℕ) → (1 ≤ length s → m ≡ 1) → (length s ≤ 1 → m ≡ length s) → t ≡ drop m s → t ≡ drop 1 s
@@ -241,16 +241,14 @@ module _ (s rest w r : List ℕ) (f : Filling) (vs ns : Seen) (R : Reads s rest 
   pub variable_number : (us : Seen) (k : ℕ) → is_variable w ≡ true → texts us ≡ noted (texts vs) w → k ≡ place_in (texts us) w → k ≡ place_in (variables (said s)) w
   variable_number us k e t p = number_is (texts vs) (variables (said s)) w (vars_in (words [] r)) k (variables_on e) (p ∙ ap (λ (l : List (List ℕ)). place_in l w) t)
 
-  pub reads_variable : (us : Seen) (k : ℕ) (g : Filling) → is_variable w ≡ true → us.count ≤ 16 → us.count ≡ length (texts us) → texts us ≡ noted (texts vs) w → k ≡ place_in (texts us) w → g ≡ variable_for f.query f.item k → Within g.query → Reads s r g us ns
-  reads_variable us k g e c o t p d i = record {
+  pub reads_variable : (us : Seen) (k : ℕ) (g : Filling) → is_variable w ≡ true → length us.items ≤ 16 → texts us ≡ noted (texts vs) w → k ≡ place_in (texts us) w → g ≡ variable_for f.query f.item k → Within g.query → Reads s r g us ns
+  reads_variable us k g e c t p d i = record {
     all_variables = ap (λ (l : List (List ℕ)). once l (vars_in (words [] r))) t ∙ variables_on e;
     all_names = ap (once (texts ns)) (sym (names_variable w (words [] r) e)) ∙ ap (λ (ws : List (List ℕ)). once (texts ns) (names_in ws)) (sym n.all) ∙ R.all_names;
     goes = goes_on g (d ∙ ap (variable_for f.query f.item) (variable_number us k e t p) ∙ fill_variable (variables (said s)) (names (said s)) f w e);
     inside = i;
     few_variables = c;
     few_names = R.few_names;
-    whole_variables = o;
-    whole_names = R.whole_names;
   }
 
   pub reads_axis : (k : ℕ) → is_variable w ≡ false → (has axis-names w ≡ true) × (k ≡ place_in axis-names w) → Reads s r (filling f.query (Axis k)) vs ns
@@ -261,12 +259,10 @@ module _ (s rest w r : List ℕ) (f : Filling) (vs ns : Seen) (R : Reads s rest 
     inside = R.inside;
     few_variables = R.few_variables;
     few_names = R.few_names;
-    whole_variables = R.whole_variables;
-    whole_names = R.whole_names;
   }
 
-  pub reads_label : (us : Seen) (k : ℕ) → is_variable w ≡ false → has axis-names w ≡ false → us.count ≤ 32 → us.count ≡ length (texts us) → texts us ≡ noted (texts ns) w → k ≡ place_in (texts us) w → Reads s r (filling f.query (Label k)) vs us
-  reads_label us k e d c o t p = record {
+  pub reads_label : (us : Seen) (k : ℕ) → is_variable w ≡ false → has axis-names w ≡ false → length us.items ≤ 32 → texts us ≡ noted (texts ns) w → k ≡ place_in (texts us) w → Reads s r (filling f.query (Label k)) vs us
+  reads_label us k e d c t p = record {
     all_variables = variables_off e;
     all_names = ap (λ (l : List (List ℕ)). once l (names_in (words [] r))) t ∙ names_on e d;
     goes = goes_on (filling f.query (Label k)) (ap (λ (c : ℕ). filling f.query (Label c)) (number_is (texts ns) (names (said s)) w (names_in (words [] r)) k (names_on e d) (p ∙ ap (λ (l : List (List ℕ)). place_in l w) t))
@@ -274,8 +270,6 @@ module _ (s rest w r : List ℕ) (f : Filling) (vs ns : Seen) (R : Reads s rest 
     inside = R.inside;
     few_variables = R.few_variables;
     few_names = c;
-    whole_variables = R.whole_variables;
-    whole_names = o;
   }
 
   -- the refusals

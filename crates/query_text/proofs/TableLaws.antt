@@ -1,8 +1,7 @@
 -- Tables of words: a word that is there already, and a new one. Assumes nothing.
-use Rattle.std.proofs.Common.{◌≡◌, ℕ, suc, ◌+◌, ◌<◌, ◌≤◌, Bool, true, false, List, [], ◌∷◌, ◌++◌, length, take, set, Bor, refl, sym, ap, ◌∙◌, arith, length-append, length-set, length-take-le}
-use Rattle.std.proofs.lemmas.List.{length-map}
-use Rattle.std.proofs.lemmas.List.{map-append}
-use Rattle.std.proofs.Math.Seq.{take-suc-set}
+use Rattle.std.proofs.Common.{◌≡◌, ℕ, suc, ◌+◌, ◌≤◌, Bool, true, false, List, [], ◌∷◌, ◌++◌, length, Bor, refl, sym, ap, ◌∙◌, arith, length-append}
+use Rattle.std.proofs.lemmas.List.{length-map, map-append}
+use Rattle.arrayvec.specs.ArrayVec.{ArrayVec}
 use Rattle.meaning.specs.Tests.{◌&◌}
 use borrow.Author.Tests.{eq-eqb, ltb-false}
 use Rattle.meaning.specs.Texts.{pick}
@@ -36,26 +35,18 @@ place_at_end l w e = go l (ltb-false (place_in l w) (length l) e)
         on true d h r = absurd (omega arith)
         on false d h r = rw d (ap suc (r (omega arith)))
 
-texts_more : (c : ℕ) (ws : List (Bor (List ℕ))) (w : Bor (List ℕ)) → c < length ws → words_of (take (c + 1) (set ws c w)) ≡ words_of (take c ws) ++ (w.now ∷ [])
-texts_more c ws w l =
-    let e : c + 1 ≡ suc c = omega arith in
-    ap (λ (k : ℕ). words_of (take k (set ws c w))) e ∙ ap words_of (take-suc-set ws c w l) ∙ map-append (λ (x : Bor (List ℕ)). x.now) (take c ws) (w ∷ [])
-
-pub texts_length : (c : ℕ) (ws : List (Bor (List ℕ))) → c ≤ length ws → length (texts (record { count = c; words = ws })) ≡ c
+pub texts_length : (v : ArrayVec (Bor (List ℕ))) → length (texts v) ≡ length v.items
 unfolding texts
-texts_length c ws l = length-map (take c ws) (λ (x : Bor (List ℕ)). x.now) ∙ length-take-le c ws l
+texts_length v = length-map v.items (λ (x : Bor (List ℕ)). x.now)
 
-module _ (c : ℕ) (ws : List (Bor (List ℕ))) (w : Bor (List ℕ)) (new : has (texts (record { count = c; words = ws })) w.now ≡ false) where
-  pub number_full : c ≤ length ws → length (noted (texts (record { count = c; words = ws })) w.now) ≡ c + 1
-  number_full l =
-      ap length (noted_new (texts (record { count = c; words = ws })) w.now new) ∙ length-append (texts (record { count = c; words = ws })) (w.now ∷ [])
-      ∙ ap (λ (k : ℕ). k + 1) (texts_length c ws l)
+module _ (v : ArrayVec (Bor (List ℕ))) (w : Bor (List ℕ)) (new : has (texts v) w.now ≡ false) where
+  pub number_full : length (noted (texts v) w.now) ≡ length v.items + 1
+  number_full = ap length (noted_new (texts v) w.now new) ∙ length-append (texts v) (w.now ∷ []) ∙ ap (λ (k : ℕ). k + 1) (texts_length v)
 
-  pub number_new : c < length ws → (texts (record { count = c + 1; words = set ws c w }) ≡ noted (texts (record { count = c; words = ws })) w.now)
-      × (c ≡ place_in (texts (record { count = c + 1; words = set ws c w })) w.now) × (c + 1 ≡ length (texts (record { count = c + 1; words = set ws c w })))
+  pub number_new : (u : ArrayVec (Bor (List ℕ))) → u.items ≡ v.items ++ (w ∷ []) → (texts u ≡ noted (texts v) w.now) × (length v.items ≡ place_in (texts u) w.now)
   unfolding texts
-  number_new l = (
-    texts_more c ws w l ∙ sym (noted_new (texts (record { count = c; words = ws })) w.now new),
-    sym (texts_length c ws (omega arith)) ∙ place_at_end (texts (record { count = c; words = ws })) w.now new ∙ ap (λ (t : List (List ℕ)). place_in t w.now) (sym (texts_more c ws w l)),
-    sym (texts_length (c + 1) (set ws c w) (let e = length-set ws c w in omega arith)),
-  )
+  number_new u e =
+      let t : texts u ≡ texts v ++ (w.now ∷ []) = ap words_of e ∙ map-append (λ (x : Bor (List ℕ)). x.now) v.items (w ∷ []) in (
+        t ∙ sym (noted_new (texts v) w.now new),
+        sym (texts_length v) ∙ place_at_end (texts v) w.now new ∙ ap (λ (l : List (List ℕ)). place_in l w.now) (sym t),
+      )

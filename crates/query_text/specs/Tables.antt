@@ -1,8 +1,9 @@
 -- The words of a text, and tables of them. Assumes nothing: these are definitions.
-use Rattle.std.specs.Prelude.{◌≡◌, Bool, List, [], ◌∷◌, ◌++◌, ℕ, ◌<◌, ◌≤◌, length, get_or, map, take}
+use Rattle.std.specs.Prelude.{◌≡◌, Bool, List, [], ◌∷◌, ◌++◌, ℕ, ◌<◌, ◌≤◌, length, get_or, map}
+use Rattle.std.specs.Borrow.{Bor}
 use Rattle.meaning.specs.Texts.{pick, among}
 use Rattle.meaning.specs.QueryTexts.{in_word, words, is_variable, has, axis-names}
-use Rattle.query_text.specs.declared.tables.Seen.{Seen}
+use Rattle.arrayvec.specs.ArrayVec.{ArrayVec}
 
 -- the first n bytes of s are of a word, or are not, and then no more
 pub record Front (s : List ℕ) (of_word : Bool) (n : ℕ) : Type 0 where
@@ -16,8 +17,8 @@ pub record Next (s w r : List ℕ) : Type 0 where
   pub less : length r < length s
 
 -- the words of a table
-unfoldable pub texts : Seen → List (List ℕ)
-texts w = map (λ x. x.now) (take w.count w.words)
+unfoldable pub texts : ArrayVec (Bor (List ℕ)) → List (List ℕ)
+texts w = map (λ x. x.now) w.items
 
 -- a word more, where it is new
 unfoldable pub noted : List (List ℕ) → List ℕ → List (List ℕ)

@@ -1,15 +1,17 @@
 // The query of a text, filled word by word.
 ghost use Rattle.std.specs.Prelude.{◌≡◌, true, false, ◌≤◌, MatchResult};
 ghost use Rattle.meaning.specs.declared.Refusal.TheVariants.{Counts};
-ghost use Rattle.meaning.specs.QueryTexts.{blank_query, said, outside, query_of, names};
+ghost use Rattle.meaning.specs.QueryTexts.{said, outside, query_of, names};
 ghost use Rattle.query_text.specs.Filling.{variable_for, Within, over_parts};
 ghost use Rattle.query_text.specs.Tables.{texts};
 
-use crate::tables::{Seen, push};
+use crate::tables::{number, push};
 use crate::words::{axis_code, is_variable, next_word};
+use arrayvec::ArrayVec;
 use meaning::{Condition, LabelCondition, Query, Refusal};
 
-// What the next variable is for: the head, a label's condition, an axis (the first variable, the second), or nothing more.
+// What the next variable is for: the head, a label's condition, an axis (the first variable, the second), or nothing more. An
+// axis stays the code that a condition by value holds.
 #[derive(Clone, Copy)]
 pub(crate) enum Item {
     Head,
@@ -64,60 +66,39 @@ impl Filling {
     }
 }
 
-fn blank_query() -> Query
-    ensures { result ≡ blank_query }
-{
-    Query {
-        variables: 0,
-        head_count: 0,
-        head: [0u8; 8],
-        label_count: 0,
-        labels: [LabelCondition {
-            variable: 0,
-            label: 0,
-        }; 32],
-        axis_count: 0,
-        axes: [Condition {
-            code: 0,
-            first: 0,
-            second: 0,
-        }; 32],
-    }
-}
-
 // The query of a text and its label names.
 #[derive(Drop)]
 pub(crate) struct Words<'a> {
     pub query: Query,
-    pub names: Seen<'a>,
+    pub names: ArrayVec<&'a [u8], 32>,
 }
 
 // The words behind the Q: a variable goes where the last name wants it, a name says what comes next.
 pub(crate) fn read_words(text: &[u8]) -> Result<Words<'_>, Refusal>
     ensures { MatchResult result
-        (λ r. (outside (said text.now) ≡ false) × (r.query ≡ query_of (said text.now)) × (r.names.count ≤ 32) × (texts r.names ≡ names (said text.now)) × Within r.query)
+        (λ r. (outside (said text.now) ≡ false) × (r.query ≡ query_of (said text.now)) × (texts r.names ≡ names (said text.now)) × Within r.query)
         (λ why. (why ≡ Counts) × (outside (said text.now) ≡ true)) }
 {
     let mut filling = Filling {
-        query: blank_query(),
+        query: Query::blank(),
         item: Item::Head,
     };
-    let mut variables = Seen::none();
-    let mut names = Seen::none();
+    let mut variables = ArrayVec::<&[u8], 16>::new();
+    let mut names = ArrayVec::<&[u8], 32>::new();
     let (_, mut rest) = text.split_at(text.len().min(1));
     while let Some((word, behind)) = next_word(rest) {
         rest = behind;
         if is_variable(word) {
-            let v = variables.number(word, 16)?;
+            let v = number(&mut variables, word)?;
             filling.put(v as u8)?;
         } else if let Some(code) = axis_code(word) {
             filling.item = Item::Axis(code);
         } else {
-            let n = names.number(word, 32)?;
+            let n = number(&mut names, word)?;
             filling.item = Item::Label(n as u16);
         }
     }
-    filling.query.variables = variables.count;
+    filling.query.variables = variables.len();
     Ok(Words {
         query: filling.query,
         names,

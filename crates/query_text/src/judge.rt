@@ -1,4 +1,4 @@
-// What is asked of a query before its text is accepted.
+// What is asked of a query before its text is accepted. A query by value may have any counts: each test asks for those it reads.
 ghost use Rattle.std.specs.Prelude.{◌≡◌, ◌≤◌, ◌==◌, ◌||◌, not, length, take};
 ghost use Rattle.std.specs.List.{list_any};
 ghost use Rattle.meaning.specs.Tests.{◌or◌};
@@ -11,12 +11,8 @@ pub(crate) fn head_twice(q: &Query) -> bool
     requires { q.now.head_count ≤ 8 }
     ensures { result ≡ twice q.now }
 {
-    for i in 0..q.head_count {
-        if q.head[..i].contains(&q.head[i]) {
-            return true;
-        }
-    }
-    false
+    let head = &q.head[..q.head_count];
+    head.iter().enumerate().any(|(i, v)| head[..i].contains(v))
 }
 
 fn labelled(q: &Query, v: u8) -> bool

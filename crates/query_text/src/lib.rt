@@ -31,7 +31,7 @@ fn read_legal(text: &[u8], names: &mut [u8]) -> Result<QueryReading, Refusal>
     if head_unused(&query) {
         return Err(Refusal::HeadVariable);
     }
-    let labels = read.names.words();
+    let labels = read.names.as_slice();
     let Some(bytes) = room_for(labels, names.len()) else {
         return Err(Refusal::ShortBuffer);
     };

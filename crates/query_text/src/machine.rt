@@ -8,7 +8,8 @@ ghost use Rattle.query_text.specs.Machine.{found, more, letter, in_a_label, step
 use crate::letters::{is_blank, is_in_label, is_in_variable, is_lower, is_upper};
 use meaning::Refusal;
 
-// What was read last; for a name, how many more bytes it may have, or how many it has.
+// What was read last; for a name, how many more bytes it may have, or how many it has. `Stop` is a state of its own in
+// specs/Machine.antt, which no byte leaves.
 #[derive(Clone, Copy)]
 pub(crate) enum Now {
     Stop,

@@ -1,13 +1,15 @@
 // The variables or the label names of a text, each once, in the order of first appearance.
-ghost use Rattle.std.specs.Prelude.{◌≡◌, MatchResult, ◌≤◌, ◌<◌, [], length, map, set, ◌+◌};
+ghost use Rattle.std.specs.Prelude.{◌≡◌, MatchResult, ◌≤◌, ◌<◌, length, set, ◌+◌};
 ghost use Rattle.meaning.specs.QueryTexts.{place_in};
 ghost use Rattle.meaning.specs.declared.Refusal.TheVariants.{Counts};
 ghost use Rattle.query_text.specs.Tables.{noted, texts};
 
 use crate::words::place_of;
+use arrayvec::ArrayVec;
 use meaning::Refusal;
 
-// Writes an item into place `count`, where there is one, and gives the new count.
+// Writes an item into place `count`, where there is one, and gives the new count: a query by value has arrays and counts, no
+// heap.
 pub(crate) fn push<T: Copy>(places: &mut [T], count: usize, item: T) -> Result<usize, Refusal>
     ensures { MatchResult result
         (λ n. (count < length places.old) × (places.new ≡ set places.old count item) × (n ≡ count + 1))
@@ -21,47 +23,21 @@ pub(crate) fn push<T: Copy>(places: &mut [T], count: usize, item: T) -> Result<u
     }
 }
 
-// `count` words of the text, each a part of it.
-#[derive(Drop)]
-pub(crate) struct Seen<'a> {
-    pub count: usize,
-    pub words: [&'a [u8]; 32],
-}
-
-impl<'a> Seen<'a> {
-    pub fn none() -> Self
-        ensures { (result.count ≡ 0) × (texts result ≡ []) }
-    {
-        Seen {
-            count: 0,
-            words: [b"".as_slice(); 32],
-        }
+// The number of a word, which is noted where it is new and there is room.
+pub(crate) fn number<'a, const N: usize>(
+    seen: &mut ArrayVec<&'a [u8], N>,
+    word: &'a [u8],
+) -> Result<usize, Refusal>
+    ensures { MatchResult result
+        (λ k. (length seen.new.items ≤ N) × (texts seen.new ≡ noted (texts seen.old) word.now) × (k ≡ place_in (texts seen.new) word.now) × (k < N))
+        (λ why. (why ≡ Counts) × (N < length (noted (texts seen.old) word.now))) }
+{
+    if let Some(k) = place_of(seen.as_slice(), word) {
+        return Ok(k);
     }
-
-    pub fn words(&self) -> &[&'a [u8]]
-        requires { self.now.count ≤ 32 }
-        ensures { (map (λ x. x.now) result.now ≡ texts self.now) × (length result.now ≡ self.now.count) }
-    {
-        &self.words[..self.count]
+    let n = seen.len();
+    if seen.try_push(word).is_err() {
+        return Err(Refusal::Counts);
     }
-
-    // The number of a word, which is noted where it is new. There are at most `limit` words.
-    pub fn number(&mut self, word: &'a [u8], limit: usize) -> Result<usize, Refusal>
-        requires { (limit ≤ 32) × (self.old.count ≤ limit) }
-        ensures { MatchResult result
-            (λ k. (self.new.count ≤ limit) × (texts self.new ≡ noted (texts self.old) word.now) × (k ≡ place_in (texts self.new) word.now) × (k < limit)
-            × (self.new.count ≡ length (texts self.new)))
-            (λ why. (why ≡ Counts) × (limit < length (noted (texts self.old) word.now))) }
-    {
-        let n = self.count;
-        if let Some(k) = place_of(self.words(), word) {
-            return Ok(k);
-        }
-        if n == limit {
-            return Err(Refusal::Counts);
-        }
-        self.words[n] = word;
-        self.count = n + 1;
-        Ok(n)
-    }
+    Ok(n)
 }

@@ -9,12 +9,9 @@ use crate::letters::{is_in_word, is_lower};
 fn front(text: &[u8], of_word: bool) -> usize
     ensures { Front text.now of_word result }
 {
-    for (i, b) in text.iter().enumerate() {
-        if is_in_word(*b) != of_word {
-            return i;
-        }
-    }
-    text.len()
+    text.iter()
+        .position(|b| is_in_word(*b) != of_word)
+        .unwrap_or(text.len())
 }
 
 // The next word of a text, and what stands behind it.
@@ -43,15 +40,10 @@ pub(crate) fn place_of(others: &[&[u8]], word: &[u8]) -> Option<usize>
     ensures { MatchOption result (has (map (λ x. x.now) others.now) word.now ≡ false)
         (λ k. (has (map (λ x. x.now) others.now) word.now ≡ true) × (k ≡ place_in (map (λ x. x.now) others.now) word.now) × (k < length others.now)) }
 {
-    for (i, other) in others.iter().enumerate() {
-        if *other == word {
-            return Some(i);
-        }
-    }
-    None
+    others.iter().position(|other| *other == word)
 }
 
-// The code of an axis name.
+// The code of an axis name, for a condition by value: its place among the names.
 pub(crate) fn axis_code(word: &[u8]) -> Option<u8>
     ensures { MatchOption result (has axis-names word.now ≡ false) (λ c. (has axis-names word.now ≡ true) × (c ≡ place_in axis-names word.now)) }
 {

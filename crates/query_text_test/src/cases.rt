@@ -1,4 +1,4 @@
-// Single texts, with the number and the place that they must give.
+// Single texts, with document 01's number and the place that they must give: the tests are written in them.
 use meaning::QueryReading;
 
 // The bytes of the names, or the number and the place of the refusal.
@@ -81,15 +81,10 @@ const LEGAL: &[u8; 42] = b"Q(x,y) <- NP(x), NextSibling+(x,y), NN(y).";
 
 // Every cut of a legal text ends early.
 pub(crate) fn cuts() -> bool {
-    for n in 0..LEGAL.len() {
-        if !refused(&LEGAL[..n], 10, n) {
-            return false;
-        }
-    }
-    true
+    (0..LEGAL.len()).all(|n| refused(&LEGAL[..n], 10, n))
 }
 
-// A byte that is legal nowhere, in every place.
+// A byte that is legal nowhere, in every place. A loop: a closure would not know that i is a place of the text.
 pub(crate) fn damaged() -> bool {
     for i in 0..LEGAL.len() {
         let mut text = *LEGAL;

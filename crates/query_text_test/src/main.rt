@@ -3,7 +3,6 @@
 
 mod cases;
 mod limits;
-mod text;
 mod tries;
 
 use crate::cases::{cuts, damaged, example, reasons, spaces, spelling};
@@ -13,6 +12,7 @@ use crate::tries::tries;
 // Standard output.
 const STDOUT_FILENO: i32 = 1;
 
+// Printed by the kit's io, which takes bytes and numbers.
 fn tell(name: &[u8], good: bool) {
     io::write_all(STDOUT_FILENO, name);
     if good {

@@ -1,7 +1,7 @@
 // The place of a damaged text, compared with one that is found by trying: a beginning continues a legal text where it makes
 // one with the end of a legal text.
 use crate::cases::read;
-use crate::text::Text;
+use trials::texts::Text;
 
 fn is_legal(text: &[u8]) -> bool {
     !matches!(read(text, &mut [0; 128]), Err((10, _)))
@@ -9,19 +9,14 @@ fn is_legal(text: &[u8]) -> bool {
 
 // A beginning with the end of another text.
 fn completes(beginning: &[u8], end: &[u8]) -> bool {
-    let mut text = Text::new();
+    let mut text = Text::<128>::new();
     text.add(beginning);
     text.add(end);
     is_legal(text.bytes())
 }
 
 fn continues_to(beginning: &[u8], other: &[u8]) -> bool {
-    for from in 0..=other.len() {
-        if completes(beginning, &other[from..]) {
-            return true;
-        }
-    }
-    false
+    (0..=other.len()).any(|from| completes(beginning, &other[from..]))
 }
 
 // The ends of these two complete every beginning of a legal text.
@@ -42,7 +37,7 @@ fn agrees(text: &[u8]) -> bool {
 }
 
 fn agrees_with(text: &[u8], i: usize, b: u8) -> bool {
-    let mut damaged = Text::new();
+    let mut damaged = Text::<128>::new();
     damaged.add(text);
     damaged.put(i, b);
     agrees(damaged.bytes())

@@ -17,7 +17,6 @@ use Rattle.meaning.specs.Listing.{pruning, room, Outcome, tuple_at}
 use Rattle.meaning.specs.Entries.{Ground, ◌when◌, Verdict, fine, refuse, lowest, at_front, unless, table_grounds, query_grounds, list_grounds, needed, list_outcome, list_says, list_answer, joined, list_leaves_found}
 use Rattle.meaning.specs.declared.Refusal.{Refusal}
 use Rattle.meaning.specs.declared.Refusal.TheVariants.{EmptyHead, ShortBuffer}
-use Rattle.meaning.specs.declared.Ending.{Ending}
 use Rattle.std.specs.Prelude.{Result, Ok, Err}
 use Rattle.meaning.specs.declared.Listing.{Listing}
 use Rattle.meaning.specs.declared.SentenceReading.{SentenceReading}

@@ -1,11 +1,11 @@
 -- Stores of lines, part after part, and the tuples of a buffer. Assumes nothing.
-use mathlib.Core.Path.{◌≡◌, refl, sym, ap, ◌∙◌}
+use mathlib.Core.Path.{◌≡◌, refl, sym, ap, subst, ◌∙◌}
 use mathlib.Core.List.{List, [], ◌∷◌, ◌++◌, map, append_assoc, append-nil}
 use Prim.Native.Nat.{ℕ, zero, suc, ◌+◌, ◌*◌, ◌≤◌, ◌<◌}
 use native.Mathlib.Omega.{arith}
 use native.Mathlib.Nat.{mul-le-mul_right, mul-le-mul_left, mul_assoc, add-mul, one-mul}
-use lib.ListN.{length, get_or, set, take, drop, length-append, length-drop, drop_of_length-le}
-use lib.Seq.{sets, length-sets, take-suc, drop-cons, drop-drop, get_or-drop}
+use lib.ListN.{length, get_or, set, take, drop, length-append}
+use lib.Seq.{sets, length-sets, take-suc, drop-drop}
 use borrow.Rule.Slice.PartMut.{put_mid}
 use Rattle.std.proofs.lemmas.Slice.{put_mid-paste}
 use Rattle.std.proofs.Math.Seq.{take-length}
@@ -55,14 +55,10 @@ unfolding rows_spaced
 rows_behind [] r = ap (λ (x : List ℕ). 32 ∷ x) (append-nil (decimal r))
 rows_behind (q ∷ rs) r = ap (λ (x : List ℕ). 32 ∷ (decimal q ++ x)) (rows_behind rs r) ∙ ap (λ (x : List ℕ). 32 ∷ x) (sym (append_assoc (decimal q) (rows_spaced rs) (32 ∷ decimal r)))
 
-pub row_next : (found : List ℕ) (from i : ℕ) → from + i < length found → rows_spaced (take (i + 1) (drop from found)) ≡ rows_spaced (take i (drop from found)) ++ (32 ∷ decimal (get_or found (from + i) 0))
-row_next found from i h =
+row_next : (rs : List ℕ) (i : ℕ) → i < length rs → rows_spaced (take (i + 1) rs) ≡ rows_spaced (take i rs) ++ (32 ∷ decimal (get_or rs i 0))
+row_next rs i h =
     let f : i + 1 ≡ suc i = omega arith in
-    let l : i < length (drop from found) = omega (arith, length-drop from found, h) in
-    ap (λ (k : ℕ). rows_spaced (take k (drop from found))) f
-    ∙ ap rows_spaced (take-suc (drop from found) i 0 l)
-    ∙ rows_behind (take i (drop from found)) (get_or (drop from found) i 0)
-    ∙ ap (λ (r : ℕ). rows_spaced (take i (drop from found)) ++ (32 ∷ decimal r)) (get_or-drop from found i 0)
+    ap (λ (k : ℕ). rows_spaced (take k rs)) f ∙ ap rows_spaced (take-suc rs i 0 h) ∙ rows_behind (take i rs) (get_or rs i 0)
 
 rows_line : (rs : List ℕ) → rows_spaced rs ++ (10 ∷ []) ≡ spaced (map decimal rs)
 unfolding rows_spaced spaced
@@ -73,10 +69,13 @@ pub rows_start : (b : List ℕ) (at : ℕ) (rs : List ℕ) → Wrote b at (0 * 2
 unfolding rows_spaced
 rows_start b at rs = wrote_nothing b at (0 * 21)
 
-pub rows_more : (b₀ : List ℕ) (at : ℕ) (found : List ℕ) (from i : ℕ) (b₁ b₂ : List ℕ) (r₁ r₂ : ℕ) → from + i < length found
-    → Wrote b₀ at (i * 21) (rows_spaced (take i (drop from found))) b₁ r₁ → Wrote b₁ r₁ 21 (32 ∷ decimal (get_or found (from + i) 0)) b₂ r₂
-    → Wrote b₀ at ((i + 1) * 21) (rows_spaced (take (i + 1) (drop from found))) b₂ r₂
-rows_more b₀ at found from i b₁ b₂ r₁ r₂ h W X = wrote_within b₀ at (i * 21 + 21) ((i + 1) * 21) _ b₂ r₂ (omega arith) (wrote_as b₀ at (i * 21 + 21) _ _ b₂ r₂ (sym (row_next found from i h)) (wrote_on b₀ at (i * 21) 21 _ _ b₁ b₂ r₁ r₂ W X))
+pub rows_more : (b₀ : List ℕ) (at : ℕ) (rs : List ℕ) (i : ℕ) (b₁ b₂ : List ℕ) (r₁ r₂ : ℕ) → i < length rs
+    → Wrote b₀ at (i * 21) (rows_spaced (take i rs)) b₁ r₁ → Wrote b₁ r₁ 21 (32 ∷ decimal (get_or rs i 0)) b₂ r₂
+    → Wrote b₀ at ((i + 1) * 21) (rows_spaced (take (i + 1) rs)) b₂ r₂
+rows_more b₀ at rs i b₁ b₂ r₁ r₂ h W X = wrote_within b₀ at (i * 21 + 21) ((i + 1) * 21) _ b₂ r₂ (omega arith) (wrote_as b₀ at (i * 21 + 21) _ _ b₂ r₂ (sym (row_next rs i h)) (wrote_on b₀ at (i * 21) 21 _ _ b₁ b₂ r₁ r₂ W X))
+
+pub rows_all : (b₀ : List ℕ) (at : ℕ) (rs : List ℕ) (i : ℕ) (b₁ : List ℕ) (r₁ : ℕ) → i ≡ length rs → Wrote b₀ at (i * 21) (rows_spaced (take i rs)) b₁ r₁ → Wrote b₀ at (length rs * 21) (rows_spaced rs) b₁ r₁
+rows_all b₀ at rs i b₁ r₁ e W = wrote_as b₀ at (length rs * 21) _ _ b₁ r₁ (ap rows_spaced (take-length rs)) (subst (λ (k : ℕ). Wrote b₀ at (k * 21) (rows_spaced (take k rs)) b₁ r₁) e W)
 
 -- j of n parts, each of size l, and one more
 pub one_more : (j n l : ℕ) → j < n → j * l + l ≤ n * l

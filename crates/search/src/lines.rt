@@ -1,5 +1,6 @@
-// The lines that a run prints, byte after byte into a lent buffer.
-ghost use Rattle.std.specs.Prelude.{◌≡◌, List, [], ◌∷◌, ◌++◌, map, ℕ, ◌+◌, ◌*◌, ◌≤◌, ◌<◌, length, take, drop};
+// The lines that a run prints, byte after byte into a lent buffer. Not by Display: the bytes are proved, and there is no heap.
+// Buffer and place come apart, since `Wrote` says of both what a call did.
+ghost use Rattle.std.specs.Prelude.{◌≡◌, List, [], ◌∷◌, ◌++◌, map, ℕ, ◌+◌, ◌*◌, ◌≤◌, ◌<◌, length};
 ghost use Rattle.meaning.specs.Run.{decimal, spaced, line, tuple_lines, word, ending_line, refusal_line};
 ghost use Rattle.search.specs.Wrote.{Wrote, rows_spaced, chunks};
 
@@ -44,32 +45,25 @@ fn put_number(out: &mut [u8], at: usize, n: u64) -> usize
     put_decimal(out, next, n)
 }
 
-// A tuple's row numbers, k from place `from` on, each after a space.
-fn put_rows(out: &mut [u8], at: usize, found: &[u16], from: usize, k: usize) -> usize
-    requires { (at + k * 21 ≤ length out.old) × (from + k ≤ length found.now) }
-    ensures { Wrote out.old at (k * 21) (rows_spaced (take k (drop from found.now))) out.new result }
+// A tuple's row numbers, each after a space.
+fn put_rows(out: &mut [u8], at: usize, tuple: &[u16]) -> usize
+    requires { at + length tuple.now * 21 ≤ length out.old }
+    ensures { Wrote out.old at (length tuple.now * 21) (rows_spaced tuple.now) out.new result }
 {
     let mut next = at;
-    for row in &found[from..from + k] {
+    for row in tuple {
         next = put_number(out, next, *row as u64);
     }
     next
 }
 
 // The line of one tuple.
-fn put_tuple(
-    out: &mut [u8],
-    at: usize,
-    sentence: u64,
-    found: &[u16],
-    from: usize,
-    k: usize,
-) -> usize
-    requires { (at + (k + 1) * 21 ≤ length out.old) × (from + k ≤ length found.now) }
-    ensures { Wrote out.old at ((k + 1) * 21) (line sentence (map decimal (take k (drop from found.now)))) out.new result }
+fn put_tuple(out: &mut [u8], at: usize, sentence: u64, tuple: &[u16]) -> usize
+    requires { at + (length tuple.now + 1) * 21 ≤ length out.old }
+    ensures { Wrote out.old at ((length tuple.now + 1) * 21) (line sentence (map decimal tuple.now)) out.new result }
 {
     let rows = put_decimal(out, at, sentence);
-    let end = put_rows(out, rows, found, from, k);
+    let end = put_rows(out, rows, tuple);
     put_byte(out, end, b'\n')
 }
 
@@ -80,7 +74,7 @@ pub(crate) fn put_tuples(out: &mut [u8], sentence: u64, found: &[u16], k: usize,
 {
     let mut at: usize = 0;
     for j in 0..n {
-        at = put_tuple(out, at, sentence, found, j * k, k);
+        at = put_tuple(out, at, sentence, &found[j * k..j * k + k]);
     }
     at
 }

@@ -10,7 +10,8 @@ ghost use Rattle.search.specs.Steps.{Leaves, Does};
 use crate::lines::{put_end, put_refusal, put_tuples};
 use meaning::{Listing, Query};
 
-// What a sentence did: the bytes of its lines, and where its text ends; or the bytes of the last line of the run.
+// What a sentence did: the bytes of its lines, and where its text ends; or the bytes of the last line of the run. They are
+// counted, not lent: the next sentence writes into the same buffer.
 #[derive(Drop)]
 pub(crate) enum SentenceStep {
     Next(usize, usize),

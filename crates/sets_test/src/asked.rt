@@ -1,5 +1,5 @@
 // The functions of sets, asked with any numbers: what they require is tested first. Where one may not be asked it says
-// nothing, and changes nothing.
+// nothing, and changes nothing; such a set has no words and no row.
 
 pub(crate) fn width(n: usize) -> usize {
     if n <= 1024 { sets::width(n) } else { 0 }

@@ -7,6 +7,7 @@ mod trial;
 
 use trial::Trial;
 
+// Printed by the kit's io, which takes bytes and numbers.
 fn say_right(right: bool) {
     io::print_decimal(1, u64::from(!right));
     io::write_all(1, b"\n");

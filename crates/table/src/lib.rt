@@ -25,6 +25,7 @@ pub struct Tree<'a> {
 
 impl Tree<'_> {
     // The row behind those below p.
+    #[tactic(auto, unfolding(crate::specs::Rows::end_of))]
     pub fn end_of(&self, p: usize) -> usize
         requires { p < length self.now.post.now }
         ensures { result ≡ end_of self.now.post.now self.now.levels.now p }
@@ -145,7 +146,7 @@ fn is_tree(post: &[u16]) -> bool
 
 // In a tree the rows below a row are those after it up to row post + level: its end. `ends` holds, by level, the ends of
 // the rows that the row before lies below, and its own. The table is a tree where no row's end lies before the row or behind
-// the end of its parent.
+// the end of its parent. The column is lent in two sizes, so the number of its ends stands beside it.
 fn ends_fit(post: &[u16], ends: &mut [u16]) -> bool
     requires { (0 < length post.now) × (length post.now ≤ 1024) × (length post.now ≤ length ends.old) }
     ensures { result ≡ tree.is_tree post.now }

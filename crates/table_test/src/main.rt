@@ -10,6 +10,8 @@ ghost use Rattle.table.specs.Rows.{Accepted, HasLevels};
 use meaning::{Axis, Refusal};
 use print::{line, text};
 use table::Tree;
+use trials::cells::narrow;
+use trials::trees::{set_chain, set_flat};
 
 fn main() {
     examples();
@@ -70,27 +72,6 @@ fn at_limit<F: Fn(&mut [u16])>(set: F)
     let mut more = [0; 1025];
     set(&mut more);
     line(checked(&more));
-}
-
-fn narrow(x: usize) -> u16 {
-    u16::try_from(x).unwrap_or(u16::MAX)
-}
-
-// In a chain the post numbers count down to 0.
-fn set_chain(post: &mut [u16]) {
-    for (i, number) in post.iter_mut().rev().enumerate() {
-        *number = narrow(i);
-    }
-}
-
-// In a flat tree row 0 has the last post number, and the next rows count up from 0.
-fn set_flat(post: &mut [u16]) {
-    if let Some((first, others)) = post.split_first_mut() {
-        *first = narrow(others.len());
-        for (i, number) in others.iter_mut().enumerate() {
-            *number = narrow(i);
-        }
-    }
 }
 
 // Whether the check takes the column.
@@ -186,20 +167,16 @@ fn tree_agrees(post: &[u16]) -> bool
     codes_agree(&tree) && plain::levels_agree(post, &levels)
 }
 
+// By code, so that each code makes its axis.
 fn codes_agree(tree: &Tree) -> bool {
-    for code in 0..7 {
-        let Ok(axis) = Axis::try_from(code) else {
-            return false;
-        };
-        for p in 0..tree.post.len() {
-            for q in 0..tree.post.len() {
-                if tree.axis_holds(axis, p, q) != plain::holds(tree.post, axis, p, q) {
-                    return false;
-                }
-            }
-        }
-    }
-    true
+    (0..7).all(|code| Axis::try_from(code).is_ok_and(|axis| axis_agrees(tree, axis)))
+}
+
+fn axis_agrees(tree: &Tree, axis: Axis) -> bool {
+    let rows = tree.post.len();
+    (0..rows).all(|p| {
+        (0..rows).all(|q| tree.axis_holds(axis, p, q) == plain::holds(tree.post, axis, p, q))
+    })
 }
 
 // Table D: its columns, with two places behind them that stay, and its axes.

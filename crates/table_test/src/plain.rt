@@ -3,7 +3,7 @@ ghost use Rattle.std.specs.Prelude.{◌<◌, ◌≤◌, length};
 
 use meaning::Axis;
 
-// The number that document 01 gives a column of 1 to 1,024 rows: 0, 2 or 3.
+// The number that document 01 gives a column of 1 to 1,024 rows: 0, 2 or 3. The program prints and counts such numbers.
 pub(crate) fn number(post: &[u16]) -> u64
     requires { 0 < length post.now }
 {
@@ -24,16 +24,14 @@ fn once(post: &[u16]) -> bool {
 }
 
 fn nested(post: &[u16]) -> bool {
-    for c in 0..post.len() {
-        for b in 0..c {
-            for a in 0..b {
-                if post[c] < post[a] && post[a] < post[b] {
-                    return false;
-                }
-            }
-        }
-    }
-    true
+    (0..post.len()).all(|c| (0..c).all(|b| !is_split(post, b, c)))
+}
+
+// Whether a row before b has a post number between those of c and b.
+fn is_split(post: &[u16], b: usize, c: usize) -> bool
+    requires { (b < length post.now) × (c < length post.now) }
+{
+    (0..b).any(|a| post[c] < post[a] && post[a] < post[b])
 }
 
 pub(crate) fn holds(post: &[u16], axis: Axis, p: usize, q: usize) -> bool
@@ -59,46 +57,26 @@ fn below(post: &[u16], p: usize, q: usize) -> bool
 fn child(post: &[u16], p: usize, q: usize) -> bool
     requires { (p < length post.now) × (q < length post.now) }
 {
-    for z in 0..post.len() {
-        if below(post, p, z) && below(post, z, q) {
-            return false;
-        }
-    }
-    below(post, p, q)
+    below(post, p, q) && !(0..post.len()).any(|z| below(post, p, z) && below(post, z, q))
 }
 
 fn later(post: &[u16], p: usize, q: usize) -> bool
     requires { (p < length post.now) × (q < length post.now) }
 {
-    for z in 0..post.len() {
-        if child(post, z, p) && child(post, z, q) {
-            return p < q;
-        }
-    }
-    false
+    p < q && (0..post.len()).any(|z| child(post, z, p) && child(post, z, q))
 }
 
 fn next(post: &[u16], p: usize, q: usize) -> bool
     requires { (p < length post.now) × (q < length post.now) }
 {
-    for z in 0..post.len() {
-        if later(post, p, z) && later(post, z, q) {
-            return false;
-        }
-    }
-    later(post, p, q)
+    later(post, p, q) && !(0..post.len()).any(|z| later(post, p, z) && later(post, z, q))
 }
 
 // Whether the levels are the numbers of ancestors.
 pub(crate) fn levels_agree(post: &[u16], levels: &[u16]) -> bool
     requires { length post.now ≤ length levels.now }
 {
-    for r in 0..post.len() {
-        if level(post, r) != usize::from(levels[r]) {
-            return false;
-        }
-    }
-    true
+    (0..post.len()).all(|r| level(post, r) == usize::from(levels[r]))
 }
 
 fn level(post: &[u16], r: usize) -> usize

@@ -1,6 +1,6 @@
 // One place of a column, read and written, and numbers made narrower.
 
-// Any place may be asked for: past the end 0 is read.
+// Any place may be asked for: past the end 0 is read, where a test would else have a case that never comes.
 pub fn at<T: Copy + Default>(a: &[T], i: usize) -> T {
     a.get(i).copied().unwrap_or_default()
 }

@@ -1,4 +1,4 @@
-// Queries: alike in all places, for the limits; and drawn by chance.
+// Queries: alike in all places, for the limits; and drawn by chance. Axes by code: a condition by value may hold any.
 ghost use Rattle.std.specs.Prelude.{◌<◌};
 
 use crate::cells::byte;

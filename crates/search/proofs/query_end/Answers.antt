@@ -1,5 +1,5 @@
 -- `search::query_end` meets its contract: the text goes on to its first full stop, or to its end. Assumes nothing.
-use Rattle.std.proofs.Common.{◌≡◌, sym, ◌∙◌, length, arith}
+use Rattle.std.proofs.Common.{sym, ◌∙◌, length, arith}
 use Rattle.std.proofs.lemmas.Bool.{eqb-true}
 use Rattle.std.proofs.lemmas.List.Quantifiers.{position-Some}
 use Rattle.search.proofs.Begins.{is_stop, goes_to, goes_through, goes_stop, goes_end}

@@ -7,7 +7,7 @@ use Rattle.export.proofs.lent.gather.Goals as goal
 
 pub returns-then-not-is_whole : goal.returns-then-not-is_whole
 returns-then-not-is_whole c = let a = c.args in
-    asked_none a.variables a.head.now a.labels.now a.axes.now _ (sym c.is_whole.ensures ∙ c.if-not-is_whole.true) c.no_query.ensures
+    asked_none a.variables a.head.now a.labels.now a.axes.now _ (sym c.is_whole.ensures ∙ c.if-not-is_whole.true) c.blank.ensures
 
 pub gather_head-h-requires : goal.gather_head-h-requires
 gather_head-h-requires c = (sizes _ _ _ (sym c.is_whole.ensures ∙ c.if-not-is_whole.false)).head_few

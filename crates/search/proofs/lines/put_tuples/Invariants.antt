@@ -1,4 +1,4 @@
-use Prim.Native.Nat.{◌+◌, ◌*◌, ◌-◌, ◌≤◌}
+use Prim.Native.Nat.{◌+◌, ◌*◌}
 use Rattle.meaning.specs.Run.{tuple_lines}
 use Rattle.search.specs.Wrote.{Wrote, chunks}
 use Rattle.search.proofs.lines.put_tuples.Given as goal
