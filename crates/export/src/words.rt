@@ -1,5 +1,5 @@
-// Answers as eight numbers, as C reads them: document 01's number (0 for no refusal), the place, the values, then zeros. Each answer
-// has other values, so each has its function.
+// Answers as eight numbers, as C reads them: document 01's number (0 for no refusal), the place, the values, then zeros. Each
+// answer has other values, so each has its function; an ending has document 01's number.
 ghost use Rattle.std.specs.Prelude.{◌≡◌};
 ghost use Rattle.meaning.specs.Told.{refused, ending_number, told_table, told_query, told_prune, told_yes_no, told_search, told_list, told_sentence};
 ghost use Rattle.export.specs.Words.{told_words, told_reading};

@@ -3,3 +3,4 @@ pub mod Lent
 pub mod Promised
 pub mod Settled
 pub mod Wrong
+pub mod AxisNames
