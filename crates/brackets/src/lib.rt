@@ -42,9 +42,9 @@ pub fn read_sentence(
 ) -> Result<SentenceReading, Refusal>
     ensures { SentenceRead text.now names.now post.old label.old result post.new label.new }
 {
+    let names = Names::new(names)?;
     let mut posts = [0; 1024];
     let mut labels = [0; 1024];
-    let names = Names::new(names)?;
     let mut columns = Columns {
         post: &mut posts,
         label: &mut labels,

@@ -69,7 +69,7 @@ places = (refl, refl, refl, refl, refl, refl, refl, refl, refl, refl, refl, refl
 
 -- refusals, in the order in which they are tried
 abbrev told : String → ℕ → Told
-told s m = told_query_text (answer (bytes s) m)
+told s m = told_query_text (reading (bytes s) m)
 
 abbrev no : ℕ → ℕ → Told
 no n p = record { number = n; place = p; values = [] }

@@ -278,6 +278,11 @@ reading_of (Err r) q = Err r
 unfoldable pub reading : List ℕ → ℕ → Result QueryReading Refusal
 reading s m = reading_of (answer s m) (said s)
 
+-- what a reading answers beside its query: the bytes of the names, or the refusal
+unfoldable pub answered : Result QueryReading Refusal → Result ℕ Refusal
+answered (Ok x) = Ok x.bytes
+answered (Err r) = Err r
+
 -- the query that a reading gives; a refused text has the blank query
 unfoldable pub query_for : Result QueryReading Refusal → Query
 query_for (Ok x) = x.query

@@ -4,6 +4,7 @@ use Rattle.meaning.specs.declared.Refusal.{Refusal}
 use Rattle.meaning.specs.declared.Refusal.TheVariants.{Columns, PostNumbers, ThreeRows, Counts, Variables, Axes, EmptyHead, Tuple, ShortBuffer, QueryText, Brackets, TooLarge, HeadVariable}
 use Rattle.meaning.specs.declared.Ending.{Ending}
 use Rattle.meaning.specs.declared.Listing.{Listing}
+use Rattle.meaning.specs.declared.QueryReading.{QueryReading}
 use Rattle.meaning.specs.declared.SentenceReading.{SentenceReading}
 use Rattle.meaning.specs.declared.Ending.TheVariants.{Finished, Full, Spent}
 
@@ -86,9 +87,9 @@ unfoldable pub told_list : Result Listing Refusal → Told
 told_list (Ok l) = given (ending_number l.ending ∷ l.tuples ∷ l.strikings ∷ [])
 told_list (Err r) = refused r
 
--- the bytes of the names
-unfoldable pub told_query_text : Result ℕ Refusal → Told
-told_query_text (Ok bytes) = given (bytes ∷ [])
+-- the bytes of the names; the query is handed over by value
+unfoldable pub told_query_text : Result QueryReading Refusal → Told
+told_query_text (Ok x) = given (x.bytes ∷ [])
 told_query_text (Err r) = refused r
 
 -- the rows, and where the sentence ends

@@ -2,9 +2,9 @@
 // What the numbers, places and values of the answers are is said in specs/Told.antt.
 #![tactic(auto)]
 
-ghost use Rattle.std.specs.Prelude.{◌≡◌};
+ghost use Rattle.std.specs.Prelude.{◌≡◌, length};
 ghost use Rattle.meaning.specs.Told.{number, place};
-ghost use Rattle.meaning.specs.QueryTexts.{blank_query};
+ghost use Rattle.meaning.specs.QueryTexts.{blank_query, query_for};
 ghost use Rattle.meaning.specs.AxisCodes.{IsAxisOf};
 
 // An axis, by its name in document 01.
@@ -102,6 +102,16 @@ impl Query {
     }
 }
 
+// `from` over `to`, one after the other. The library's copy_from_slice would have a C caller's program bring memmove.
+pub fn copy_over<T: Copy>(to: &mut [T], from: &[T])
+    requires { length to.old ≡ length from.now }
+    ensures { to.new ≡ from.now }
+{
+    for (i, place) in to.iter_mut().enumerate() {
+        *place = from[i];
+    }
+}
+
 // Why an input is refused; the reasons in the order of document 01's numbers 1 to 13, with their places.
 #[derive(Clone, Copy, PartialEq, Eq)]
 pub enum Refusal {
@@ -178,6 +188,19 @@ pub struct Listing {
 pub struct QueryReading {
     pub bytes: usize,
     pub query: Query,
+}
+
+impl QueryReading {
+    // The query that the reader of query texts gives: the blank query where it refuses the text.
+    #[tactic(auto, unfolding(crate::specs::QueryTexts::query_for))]
+    pub fn query_for(reading: Result<QueryReading, Refusal>) -> Query
+        ensures { result ≡ query_for reading }
+    {
+        match reading {
+            Ok(read) => read.query,
+            Err(_) => Query::blank(),
+        }
+    }
 }
 
 // A bracketed sentence that was read: its rows, and where it ends in the text.

@@ -215,7 +215,8 @@ pub fn list_answers<'a>(
     answers::list_answers(tree.post, tree.label, q, allowance, sets, found)
 }
 
-// Reads a query text: its query by value, and its label names into a lent buffer. A refusal gives no query.
+// Reads a query text: its query by value, and its label names into a lent buffer. A refusal has no query beside it:
+// `QueryReading::query_for` gives the blank one.
 pub fn read_query(text: &[u8], names: &mut [u8]) -> Result<QueryReading, Refusal>
     ensures { ReadsQuery text.now names.old result names.new }
 {

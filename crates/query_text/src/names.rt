@@ -3,6 +3,8 @@ ghost use Rattle.std.specs.Prelude.{◌≡◌, ◌≤◌, ◌++◌, length, map,
 ghost use Rattle.meaning.specs.QueryTexts.{closed};
 ghost use Rattle.query_text.specs.Room.{room_of};
 
+use meaning::copy_over;
+
 // The bytes that the names take, where a buffer of `have` bytes holds them.
 pub(crate) fn room_for(names: &[&[u8]], have: usize) -> Option<usize>
     ensures { result ≡ room_of (length (closed (map (λ x. x.now) names.now))) have }
@@ -24,7 +26,7 @@ pub(crate) fn write_names(names: &[&[u8]], buffer: &mut [u8])
     let mut at: usize = 0;
     for name in names {
         let end = at + name.len();
-        buffer[at..end].copy_from_slice(name);
+        copy_over(&mut buffer[at..end], name);
         buffer[end] = b'\n';
         at = end + 1;
     }

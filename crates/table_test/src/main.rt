@@ -167,15 +167,15 @@ fn tree_agrees(post: &[u16]) -> bool
     codes_agree(&tree) && plain::levels_agree(post, &levels)
 }
 
-// By code, so that each code makes its axis.
+// By code: the tree is asked by the axis that the code makes, the definition by the code itself.
 fn codes_agree(tree: &Tree) -> bool {
-    (0..7).all(|code| Axis::try_from(code).is_ok_and(|axis| axis_agrees(tree, axis)))
+    (0..7).all(|code| Axis::try_from(code).is_ok_and(|axis| axis_agrees(tree, axis, code)))
 }
 
-fn axis_agrees(tree: &Tree, axis: Axis) -> bool {
+fn axis_agrees(tree: &Tree, axis: Axis, code: u8) -> bool {
     let rows = tree.post.len();
     (0..rows).all(|p| {
-        (0..rows).all(|q| tree.axis_holds(axis, p, q) == plain::holds(tree.post, axis, p, q))
+        (0..rows).all(|q| tree.axis_holds(axis, p, q) == plain::holds(tree.post, code, p, q))
     })
 }
 

@@ -1,8 +1,6 @@
 // The table's rules and the axes straight from their definitions, by trying every row: what the program compares with.
 ghost use Rattle.std.specs.Prelude.{◌<◌, ◌≤◌, length};
 
-use meaning::Axis;
-
 // The number that document 01 gives a column of 1 to 1,024 rows: 0, 2 or 3. The program prints and counts such numbers.
 pub(crate) fn number(post: &[u16]) -> u64
     requires { 0 < length post.now }
@@ -34,17 +32,18 @@ fn is_split(post: &[u16], b: usize, c: usize) -> bool
     (0..b).any(|a| post[c] < post[a] && post[a] < post[b])
 }
 
-pub(crate) fn holds(post: &[u16], axis: Axis, p: usize, q: usize) -> bool
+// Codes below 7, as document 01 numbers the axes: the engine's own names of axes have no part in what is expected of it.
+pub(crate) fn holds(post: &[u16], code: u8, p: usize, q: usize) -> bool
     requires { (p < length post.now) × (q < length post.now) }
 {
-    match axis {
-        Axis::Child => child(post, p, q),
-        Axis::ChildPlus => below(post, p, q),
-        Axis::ChildStar => p == q || below(post, p, q),
-        Axis::NextSibling => next(post, p, q),
-        Axis::NextSiblingPlus => later(post, p, q),
-        Axis::NextSiblingStar => p == q || later(post, p, q),
-        Axis::Following => p < q && post[p] < post[q],
+    match code {
+        0 => child(post, p, q),
+        1 => below(post, p, q),
+        2 => p == q || below(post, p, q),
+        3 => next(post, p, q),
+        4 => later(post, p, q),
+        5 => p == q || later(post, p, q),
+        _ => p < q && post[p] < post[q],
     }
 }
 

@@ -9,8 +9,8 @@ pub loop-name-init : goal.loop-name-init
 unfolding closed
 loop-name-init c = record { place = refl; front = refl; behind = refl }
 
-pub slice_bounds-copy_from_slice-end : goal.slice_bounds-copy_from_slice-end
-slice_bounds-copy_from_slice-end c =
+pub slice_bounds-copy_over-end : goal.slice_bounds-copy_over-end
+slice_bounds-copy_over-end c =
     let ns = c.args.names.now in
     let l = c.loop-name in
     let i = l.name-index in
@@ -27,8 +27,8 @@ bounds-buffer-end c =
     let a = bytes_grow ns i c.loop-name-test.true in
     let b = bytes_less ns (i + 1) in
     let inside : l.at + length (name_at ns i) < length l.buffer = omega (arith, a, b, l.invariant.place, l.auto.buffer, c.requires) in
-    let e = ap length c.copy_from_slice.ensures.after in
-    omega (arith, inside, put_length c.args.buffer.now l.buffer c.copy_from_slice.new.self (name_at ns i) _ l.at inside c.copy_from_slice.ensures.after l.invariant.front l.invariant.behind)
+    let e = ap length c.copy_over.ensures in
+    omega (arith, inside, put_length c.args.buffer.now l.buffer c.copy_over.new.to (name_at ns i) _ l.at inside c.copy_over.ensures l.invariant.front l.invariant.behind)
 
 pub loop-name-preserved : goal.loop-name-preserved
 loop-name-preserved c =
@@ -40,8 +40,8 @@ loop-name-preserved c =
     let inside : l.at + length (name_at ns i) < length l.buffer = omega (arith, a, b, l.invariant.place, l.auto.buffer, c.requires) in
     record {
       place = omega (arith, a, l.invariant.place);
-      front = write_front c.args.buffer.now l.buffer c.copy_from_slice.new.self (name_at ns i) _ l.at inside c.copy_from_slice.ensures.after l.invariant.front l.invariant.behind ∙ sym (bytes_more ns i c.loop-name-test.true);
-      behind = write_behind c.args.buffer.now l.buffer c.copy_from_slice.new.self (name_at ns i) _ l.at inside c.copy_from_slice.ensures.after l.invariant.front l.invariant.behind;
+      front = write_front c.args.buffer.now l.buffer c.copy_over.new.to (name_at ns i) _ l.at inside c.copy_over.ensures l.invariant.front l.invariant.behind ∙ sym (bytes_more ns i c.loop-name-test.true);
+      behind = write_behind c.args.buffer.now l.buffer c.copy_over.new.to (name_at ns i) _ l.at inside c.copy_over.ensures l.invariant.front l.invariant.behind;
     }
 
 pub returns : goal.returns
