@@ -9,6 +9,7 @@ mod bytes;
 mod names;
 mod trees;
 
+use arrayvec::ArrayVec;
 use meaning::{Refusal, SentenceReading};
 use names::Names;
 use trees::{Columns, Source};
@@ -42,7 +43,10 @@ pub fn read_sentence(
 ) -> Result<SentenceReading, Refusal>
     ensures { SentenceRead text.now names.now post.old label.old result post.new label.new }
 {
-    let names = Names::new(names)?;
+    let mut ends = ArrayVec::new();
+    let mut noted = [false; 256];
+    names::find(names, &mut ends, &mut noted)?;
+    let names = Names::of(names, &ends, &noted);
     let mut posts = [0; 1024];
     let mut labels = [0; 1024];
     let mut columns = Columns {

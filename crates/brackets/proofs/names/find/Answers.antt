@@ -1,12 +1,12 @@
--- The proof of `Names::new` of src/names.rt. Assumes nothing.
+-- The proof of `names::find` of src/names.rt. Assumes nothing.
 use Rattle.std.proofs.Common.{◌≡◌, [], ◌∷◌, ◌++◌, refl, sym, ◌∙◌, arith, rules}
 use Rattle.std.proofs.lemmas.Bool.{false≢true}
 use Rattle.brackets.proofs.Lists.{read_none, noted_line, read_on, read_line, read_many, read_marked, read_few, read_noted}
-use Rattle.brackets.proofs.names.Names.new.Goals as goal
-use Rattle.brackets.proofs.names.Names.new.Goals.{then-begins, else-begins, else-begins-2-via-then-begins-2+else-is_err, else-begins-2-via-else-begins-2}
+use Rattle.brackets.proofs.names.find.Goals as goal
+use Rattle.brackets.proofs.names.find.Goals.{then-begins, else-begins, else-begins-2-via-then-begins-2+else-is_err, else-begins-2-via-else-begins-2}
 
 pub loop-i-init : goal.loop-i-init
-loop-i-init c = rw c.new-ends.ensures (read_none c.args.list.now)
+loop-i-init c = rw (c.requires.0, c.requires.1) (read_none c.args.list.now)
 
 pub returns-then-is_err-clause-many : goal.returns-then-is_err-clause-many
 returns-then-is_err-clause-many c =
@@ -26,12 +26,9 @@ loop-i-preserved c =
       | else-begins-2-via-else-begins-2 w ↦ rw w.ends-is (read_on s l.i l.begins l.ends.items l.noted l.invariant t w.if-begins-2.false c.if-begins.noted N)
     ]
 
-pub invariant_of-result : goal.invariant_of-result
-invariant_of-result c =
-    let l = c.loop-i in
-    (read_marked c.args.list.now l.i l.begins l.ends.items l.noted l.invariant c.loop-i-test.false, read_noted c.args.list.now l.i l.begins l.ends.items l.noted l.invariant c.loop-i-test.false)
-
 pub returns-clause-few : goal.returns-clause-few
 returns-clause-few c =
     let l = c.loop-i in
-    (refl, read_few c.args.list.now l.i l.begins l.ends.items l.noted l.invariant c.loop-i-test.false)
+    let s = c.args.list.now in
+    let done = c.loop-i-test.false in
+    (read_marked s l.i l.begins l.ends.items l.noted l.invariant done, read_noted s l.i l.begins l.ends.items l.noted l.invariant done, read_few s l.i l.begins l.ends.items l.noted l.invariant done)
